@@ -1,0 +1,2 @@
+pub mod Btf
+pub mod Maps

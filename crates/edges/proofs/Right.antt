@@ -1,0 +1,6 @@
+-- The theorem over document 01's table of jobs at the edges: the definitions give every figure of it. The checker computes them.
+use lib.Dec.{T}
+use Rattle.edges.specs.Table.{all, rows}
+
+pub right-all : T (all rows)
+right-all = tt

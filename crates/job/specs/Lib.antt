@@ -1,0 +1,5 @@
+pub mod Lines
+pub mod Frames
+pub mod Checked
+pub mod Answer
+pub mod Refusal

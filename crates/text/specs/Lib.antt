@@ -1,0 +1,4 @@
+pub mod Utf8
+pub mod Written
+pub mod Wait
+pub mod Name
