@@ -29,14 +29,15 @@ pub enum CountAttr {
     Present(u32),
 }
 
-// A name, as the place in the job's text where its first character stands, and how many bytes it has. A byte takes two characters.
+// A name, as the place in the job's text where its first character stands, and how many bytes it has. A byte takes two characters, a
+// text has at most 65,535 and a name at most 64 bytes.
 pub struct Name {
-    pub at: usize,
-    pub len: usize,
+    pub at: u16,
+    pub len: u8,
 }
 
+// A map's declaration. Its name stands beside it, as a place in the job's text.
 pub struct MapDecl {
-    pub name: Name,
     pub map_type: MapType,
     pub key_type: TypeAttr,
     pub value_type: TypeAttr,

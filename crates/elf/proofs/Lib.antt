@@ -1,2 +1,5 @@
 pub mod Laws
+pub mod Strings
+pub mod Rows
+pub mod Places
 pub mod Single

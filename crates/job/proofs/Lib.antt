@@ -1,1 +1,6 @@
-pub mod Single
+pub mod Lines
+pub mod Walking
+pub mod Body
+pub mod Steps
+pub mod WithinFrames
+pub mod Within

@@ -5,7 +5,9 @@ use Prim.Native.Nat.{ℕ}
 use lib.ListN.{length, drop}
 use lib.Dec.{leb}
 use Rattle.object.specs.Object.{object}
-use Rattle.job.specs.Checked.{checked, accepted, faulty}
+use Rattle.judge.specs.Checked.{checked, accepted, faulty}
+use Rattle.judge.specs.Refusal.{numberOf, lineOf, neededOf}
+use Rattle.judge.specs.declared.Refusal.{Refusal}
 
 -- `refused number line needed`: the length needed is 0 in every refusal but 8
 pub data Answer : Type 0 where
@@ -24,3 +26,7 @@ answer text room = elim (checked text) [ accepted j ↦ fitted room (object j) |
 abbrev pub outputAfter : Answer → List ℕ → List ℕ
 outputAfter (made bytes) out = bytes ++ drop (length bytes) out
 outputAfter (refused number line needed) out = out
+
+-- the answer that a refusal is
+abbrev pub refusalOf : Refusal → Answer
+refusalOf r = refused (numberOf r) (lineOf r) (neededOf r)

@@ -2,4 +2,4 @@ pub mod Lines
 pub mod Frames
 pub mod Checked
 pub mod Answer
-pub mod Refusal
+pub mod Walked

@@ -1,65 +1,227 @@
-// Jobs: the refusals of document 01's table. Lines and frames are defined in specs/.
+// Jobs: the walk over a text's lines, which fills the tables or gives the first refusal. Frames 04, 05 and 06 come by the thousand: they
+// change the tables in place, or the open program alone.
 ghost use mathlib.Core.Path.{_≡_};
-ghost use Rattle.job.specs.Refusal.{numberOf, lineOf, neededOf};
+ghost use Prim.Native.Nat.{_+_, _≤_, _<_};
+ghost use lib.ListN.{length};
+ghost use Rattle.object.specs.Tables.{Sound};
+ghost use Rattle.judge.specs.Checked.{takeLines, empty, checked};
+ghost use Rattle.lines.specs.Lines.{lines};
+ghost use Rattle.job.specs.Walked.{LineSays, openedAt, codeAdded, relocAdded, closedOf, builtOf, builtWith, refusedWith, parsedIn, ParsedKept};
+use frames::Frame;
+use judge::Counts;
+use judge::Declaration;
+use judge::Refusal;
+use judge::Verdict;
+use lines::LineEnd;
+use ast::Name;
+use object::Added;
+use object::Adding;
+use object::BpfObject;
+use object::Program;
+use object::Slot;
 
-// Why a job is refused: each case but the first and the last holds the number of its line, and the last the length needed.
-pub enum Refusal {
-    TooLong,
-    BadLine(usize),
-    BadFrame(usize),
-    Misplaced(usize),
-    BadText(usize),
-    OverLimit(usize),
-    UnknownMap(usize),
-    NoRoom(usize),
+// What a line says: a frame and where the line ends, or that it is no line of the format.
+enum LineRead {
+    Is { frame: Frame, end: usize },
+    NotLine,
 }
 
-impl Refusal {
-    // The refusal's number in the table.
-    pub fn number(self) -> u32
-        ensures { λ r. ⌜ r ≡ numberOf self ⌝ }
-    {
-        match self {
-            Refusal::TooLong => 1,
-            Refusal::BadLine(_) => 2,
-            Refusal::BadFrame(_) => 3,
-            Refusal::Misplaced(_) => 4,
-            Refusal::BadText(_) => 5,
-            Refusal::OverLimit(_) => 6,
-            Refusal::UnknownMap(_) => 7,
-            Refusal::NoRoom(_) => 8,
-        }
+// The line that starts at `at`.
+fn read_line(text: &[u8], at: usize) -> LineRead
+    requires { ⌜ length (now text) ≤ 65535 ⌝ }
+    requires { ⌜ at < length (now text) ⌝ }
+    ensures { λ r. ⌜ LineSays (now (text .entry)) at r ⌝ }
+{
+    let LineEnd::Ended(end) = lines::line_end(text, at) else {
+        return LineRead::NotLine;
+    };
+    if !lines::is_frame(&text[at..end]) {
+        return LineRead::NotLine;
     }
+    let frame = frames::read_frame(&text[at..end]);
+    LineRead::Is { frame, end }
+}
 
-    // The line that it is about, 0 where it is about none.
-    pub fn line(self) -> usize
-        ensures { λ r. ⌜ r ≡ lineOf self ⌝ }
-    {
-        match self {
-            Refusal::TooLong => 0,
-            Refusal::BadLine(l) => l,
-            Refusal::BadFrame(l) => l,
-            Refusal::Misplaced(l) => l,
-            Refusal::BadText(l) => l,
-            Refusal::OverLimit(l) => l,
-            Refusal::UnknownMap(l) => l,
-            Refusal::NoRoom(_) => 0,
-        }
+// A program with no line in its body yet: the body starts at `from`, the relocations at slot `first`.
+fn opened_at(section: Name, symbol: Name, from: usize, first: usize) -> Program
+    requires { ⌜ from < 65536 ⌝ }
+    requires { ⌜ first < 65536 ⌝ }
+    ensures { λ r. ⌜ r ≡ openedAt section symbol from first ⌝ }
+{
+    Program {
+        section,
+        symbol,
+        from: from as u16,
+        lines: 0,
+        code_len: 0,
+        first: first as u16,
+        relocs: 0,
     }
+}
 
-    // The length that the object needs, 0 in every refusal but the last.
-    pub fn needed(self) -> usize
-        ensures { λ r. ⌜ r ≡ neededOf self ⌝ }
-    {
-        match self {
-            Refusal::TooLong => 0,
-            Refusal::BadLine(_) => 0,
-            Refusal::BadFrame(_) => 0,
-            Refusal::Misplaced(_) => 0,
-            Refusal::BadText(_) => 0,
-            Refusal::OverLimit(_) => 0,
-            Refusal::UnknownMap(_) => 0,
-            Refusal::NoRoom(n) => n,
+// A line of `n` bytes of code.
+fn add_code(mut p: Program, n: usize) -> Program
+    requires { ⌜ p .lines < 65535 ⌝ }
+    requires { ⌜ p .«code_len» + n < 65536 ⌝ }
+    ensures { λ r. ⌜ r ≡ codeAdded p n ⌝ }
+{
+    p.lines += 1;
+    p.code_len += n as u16;
+    p
+}
+
+// A line with a relocation.
+fn add_reloc(mut p: Program) -> Program
+    requires { ⌜ p .lines < 65535 ⌝ }
+    requires { ⌜ p .relocs < 65535 ⌝ }
+    ensures { λ r. ⌜ r ≡ relocAdded p ⌝ }
+{
+    p.lines += 1;
+    p.relocs += 1;
+    p
+}
+
+// The open program is added, where there is one.
+fn close(object: BpfObject, opened: usize, program: Program) -> Added
+    requires { ⌜ Sound object ⌝ }
+    ensures { λ r. ⌜ r ≡ closedOf object opened program ⌝ }
+{
+    if opened == 0 {
+        return Added {
+            answer: Adding::Done,
+            object,
+        };
+    }
+    object.add_program(program)
+}
+
+// The tables and the open program after a step, with what the step did.
+struct Built {
+    answer: Adding,
+    object: BpfObject,
+    opened: usize,
+    program: Program,
+}
+
+// What a declaration adds: a licence, a map, or a program, which closes the one that was open. The new one's body starts at `from`.
+fn build(object: BpfObject, opened: usize, program: Program, declaration: Declaration, from: usize) -> Built
+    requires { ⌜ Sound object ⌝ }
+    requires { ⌜ from < 65536 ⌝ }
+    ensures { λ r. ⌜ r ≡ builtOf object opened program declaration from ⌝ }
+{
+    match declaration {
+        Declaration::License(name) => with_program(object.add_license(name), opened, program),
+        Declaration::Map { decl, name } => with_program(object.add_map(decl, name), opened, program),
+        Declaration::Program { section, symbol } => {
+            let first = object.reloc_count;
+            let next = opened_at(section, symbol, from, first);
+            with_program(close(object, opened, program), 1, next)
         }
     }
+}
+
+fn with_program(added: Added, opened: usize, program: Program) -> Built
+    ensures { λ r. ⌜ r ≡ builtWith added opened program ⌝ }
+{
+    let answer = added.answer;
+    let object = added.object;
+    Built {
+        answer,
+        object,
+        opened,
+        program,
+    }
+}
+
+pub enum Parsing {
+    Accepted,
+    Refused(Refusal),
+}
+
+// The answer of the whole walk, with the tables beside it.
+pub struct Parsed {
+    pub answer: Parsing,
+    pub object: BpfObject,
+}
+
+fn refused(refusal: Refusal, object: BpfObject) -> Parsed
+    ensures { λ r. ⌜ r ≡ refusedWith refusal object ⌝ }
+{
+    Parsed {
+        answer: Parsing::Refused(refusal),
+        object,
+    }
+}
+
+// The lines of a text one after the other, up to the first that is refused.
+fn walk(text: &[u8]) -> Parsed
+    requires { ⌜ length (now text) ≤ 65535 ⌝ }
+    ensures { λ r. ⌜ parsedIn (now (text .entry)) r ≡ takeLines empty (lines (now (text .entry))) ⌝ }
+    ensures { λ r. ⌜ ParsedKept (now (text .entry)) r ⌝ }
+{
+    let mut object = BpfObject::new();
+    let mut program = Program::none();
+    let mut opened = 0;
+    let mut count = 0;
+    let mut at = 0;
+    while at < text.len() {
+        let read = read_line(text, at);
+        let LineRead::Is { frame, end } = read else {
+            return refused(Refusal::BadLine(count + 1), object);
+        };
+        let counts = Counts {
+            lines: count,
+            maps: object.map_count,
+            programs: object.program_count + opened,
+            relocs: object.reloc_count,
+        };
+        let verdict = judge::judge_frame(text, &object.map_at, &object.map_len, at, end, frame, counts);
+        at = end + 1;
+        count += 1;
+        match verdict {
+            Verdict::Declares(declaration) => {
+                let built = build(object, opened, program, declaration, at);
+                let answer = built.answer;
+                object = built.object;
+                program = built.program;
+                opened = built.opened;
+                let Adding::Done = answer else {
+                    return refused(Refusal::OverLimit(count), object);
+                };
+            }
+            Verdict::Code(n) => {
+                program = add_code(program, n);
+            }
+            Verdict::Reloc(entry) => {
+                let n = object.reloc_count;
+                object.slots[n] = Slot { entry };
+                object.reloc_count = n + 1;
+                program = add_reloc(program);
+            }
+            Verdict::Refused(refusal) => {
+                return refused(refusal, object);
+            }
+        }
+    }
+    let closed = close(object, opened, program);
+    let answer = closed.answer;
+    object = closed.object;
+    let Adding::Done = answer else {
+        return refused(Refusal::OverLimit(count), object);
+    };
+    Parsed {
+        answer: Parsing::Accepted,
+        object,
+    }
+}
+
+// The job of a text, or the one refusal that the table gives.
+pub fn parse(text: &[u8]) -> Parsed
+    ensures { λ r. ⌜ parsedIn (now (text .entry)) r ≡ checked (now (text .entry)) ⌝ }
+    ensures { λ r. ⌜ ParsedKept (now (text .entry)) r ⌝ }
+{
+    if 65535 < text.len() {
+        return refused(Refusal::TooLong, BpfObject::new());
+    }
+    walk(text)
 }

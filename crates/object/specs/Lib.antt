@@ -1,1 +1,4 @@
 pub mod Object
+pub mod Tables
+pub mod Read
+pub mod Kept

@@ -1,3 +1,7 @@
 pub mod Numbers
 pub mod Laws
+pub mod Reading
+pub mod Lists
+pub mod Bytes
+pub mod Tests
 pub mod Single

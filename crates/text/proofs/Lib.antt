@@ -1,2 +1,3 @@
 pub mod Laws
+pub mod Names
 pub mod Single

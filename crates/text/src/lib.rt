@@ -1,8 +1,9 @@
-// UTF-8 as RFC 3629 gives it, and the names under which maps and programs are written.
+// UTF-8 as RFC 3629 gives it, of texts in hexadecimal, and the names under which maps and programs are written.
 ghost use mathlib.Core.Path.{_≡_};
 ghost use mathlib.Core.Bool.{true};
 ghost use Prim.Native.Nat.{_+_, _≤_};
 ghost use lib.ListN.{length};
+ghost use Rattle.lines.specs.Hex.{isHex, bytesIn};
 ghost use Rattle.text.specs.Utf8.{allowed, leads, continues, next, isText, hasZero};
 ghost use Rattle.text.specs.Written.{letter, letterOrDigit, written, unnamed};
 ghost use Rattle.text.specs.Name.{charAt};
@@ -128,14 +129,16 @@ fn step(w: Wait, b: u8) -> Next
     proceed(w, b)
 }
 
-// Whether `s` is UTF-8.
+// Whether the bytes of the hexadecimal `s` are UTF-8.
 pub fn is_text(s: &[u8]) -> bool
-    ensures { λ r. ⌜ r ≡ isText (now (s .entry)) ⌝ }
+    requires { ⌜ isHex (now s) ≡ true ⌝ }
+    ensures { λ r. ⌜ r ≡ isText (bytesIn (now (s .entry))) ⌝ }
 {
+    let n = s.len() / 2;
     let mut w = Wait::idle();
     let mut i = 0;
-    while i < s.len() {
-        let b = s[i];
+    while i < n {
+        let b = lines::byte_at(s, i);
         i += 1;
         match step(w, b) {
             Next::Point(_) => {
@@ -152,13 +155,15 @@ pub fn is_text(s: &[u8]) -> bool
     w.left == 0
 }
 
-// Whether a zero byte stands in `s`.
+// Whether a zero byte stands among the bytes of the hexadecimal `s`.
 pub fn has_zero(s: &[u8]) -> bool
-    ensures { λ r. ⌜ r ≡ hasZero (now (s .entry)) ⌝ }
+    requires { ⌜ isHex (now s) ≡ true ⌝ }
+    ensures { λ r. ⌜ r ≡ hasZero (bytesIn (now (s .entry))) ⌝ }
 {
+    let n = s.len() / 2;
     let mut i = 0;
-    while i < s.len() {
-        if s[i] == 0 {
+    while i < n {
+        if lines::byte_at(s, i) == 0 {
             return true;
         }
         i += 1;

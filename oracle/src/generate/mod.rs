@@ -15,7 +15,7 @@ use crate::job::Refusal;
 use crate::list::Record;
 use crate::original::Scratch;
 use faults::{by_chance, Fault, Place};
-use frames::{ended, hex, job as text_of, Frame};
+use frames::{ended, job as text_of, Frame};
 use random::Random;
 use texts::{text, NAME};
 
@@ -147,8 +147,8 @@ fn unknown_map(random: &mut Random) -> Case {
             _ => None,
         })
         .collect();
-    let relocation = Frame::relocation(random.next(), &undeclared(random, &declared));
-    let fault = Fault { number: 7, place: Place::Open, line: hex(&relocation.bytes()), ended: true };
+    let relocation = Frame::relocation(random.number(), &undeclared(random, &declared));
+    let fault = Fault { number: 7, place: Place::Open, line: relocation.line(), ended: true };
     placed(&fault, &frames, at, None)
 }
 

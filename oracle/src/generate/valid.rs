@@ -228,8 +228,13 @@ pub fn map(random: &mut Random) -> Frame {
         kind: random.pick(&MAP_TYPES),
         key: (presence & 1 != 0).then(|| random.pick(&MEMBER_TYPES)),
         value: (presence & 2 != 0).then(|| random.pick(&MEMBER_TYPES)),
-        entries: (presence & 4 != 0)
-            .then(|| if random.once_in(4) { random.next() as u32 } else { random.pick(&ENTRIES) }),
+        entries: (presence & 4 != 0).then(|| {
+            if random.once_in(4) {
+                random.number() as u32
+            } else {
+                random.pick(&ENTRIES)
+            }
+        }),
         name: text(random, NAME),
     }
 }
@@ -270,6 +275,6 @@ pub fn instruction(random: &mut Random) -> Frame {
 }
 
 pub fn relocation(random: &mut Random, names: &[Vec<u8>]) -> Frame {
-    let offset = if random.once_in(4) { random.next() } else { random.pick(&OFFSETS) };
+    let offset = if random.once_in(4) { random.number() } else { random.pick(&OFFSETS) };
     Frame::Relocation { offset, name: random.pick(names) }
 }

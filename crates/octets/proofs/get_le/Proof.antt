@@ -1,15 +1,14 @@
 -- `octets::get_le` meets its contract. Assumes nothing.
 use mathlib.Core.Path.{_≡_, sym, _∙_, ap}
-use mathlib.Core.List.{List}
-use Prim.Native.Nat.{ℕ, suc, _≤_, _<_, _-_, _+_, _*_, _^_}
+use Prim.Native.Nat.{ℕ, _≤_, _<_, _-_, _^_}
 use native.Mathlib.Omega.{arith}
-use native.Mathlib.Nat.{sub-self, pow-suc, pow-le-pow-right}
+use native.Mathlib.Nat.{sub-self}
 use lib.Dec.{lit<}
 use lib.ListN.{length, drop, getD}
 use lib.Seq.{drop-length}
 use borrow.Author.Needs.{needs}
 use Rattle.octets.specs.Octets.{value}
-use Rattle.octets.proofs.Laws.{read-on}
+use Rattle.octets.proofs.Reading.{small, more, larger}
 use Rattle.octets.proofs.get_le.Statement.{statement}
 use Rattle.octets.proofs.get_le.Tie as tie
 
@@ -18,21 +17,6 @@ Inv-loop s v₀ i₀ v i = (i ≤ length s) × (v ≡ value (drop i s)) × (v < 
 
 abbrev μ-loop : tie.MeasureT-loop
 μ-loop s v₀ i₀ v i = i
-
--- where a byte is still to come, the number is below 2^56
-small : (n i v : ℕ) → n ≤ 8 → 0 < i → v < 256 ^ (n - i) → v < 2 ^ 56
-small n i v h p q = let e : 256 ^ (n - i) ≤ 256 ^ 7 = pow-le-pow-right (lit< tt) {j = 7} (omega arith) in omega arith
-
-more : (s : List ℕ) (i v : ℕ) → 0 < i → i ≤ length s → v ≡ value (drop i s) → v * 256 + getD s (i - 1) 0 ≡ value (drop (i - 1) s)
-more s i v p h e =
-    let j : i - 1 + 1 ≡ i = omega arith in
-    let b : i - 1 < length s = omega arith in
-    rw (read-on s (i - 1) b, j, ← e) (omega arith)
-
-larger : (n i v b : ℕ) → 0 < i → i ≤ n → v < 256 ^ (n - i) → b < 256 → v * 256 + b < 256 ^ (n - (i - 1))
-larger n i v b p h q r =
-    let j : n - (i - 1) ≡ suc (n - i) = omega arith in
-    rw (j, pow-suc) (omega arith)
 
 loop-holds : tie.Need-loop-holds Inv-loop μ-loop
 loop-holds c = (search needs, ap value (sym (drop-length (c .args .s .now))), rw (sub-self (length (c .args .s .now))) (lit< tt))

@@ -1,8 +1,7 @@
 -- The code's refusals as document 01's table has them: the number, the line and the length needed of each case.
 use Prim.Native.Nat.{ℕ}
-use Rattle.job.specs.Answer.{Answer, refused}
-use Rattle.job.specs.declared.Refusal.{Refusal}
-use Rattle.job.specs.declared.Refusal.the-variants.{TooLong, BadLine, BadFrame, Misplaced, BadText, OverLimit, UnknownMap, NoRoom}
+use Rattle.judge.specs.declared.Refusal.{Refusal}
+use Rattle.judge.specs.declared.Refusal.the-variants.{TooLong, BadLine, BadFrame, Misplaced, BadText, OverLimit, UnknownMap, NoRoom}
 
 abbrev pub numberOf : Refusal → ℕ
 numberOf TooLong = 1
@@ -33,7 +32,3 @@ neededOf (BadText l) = 0
 neededOf (OverLimit l) = 0
 neededOf (UnknownMap l) = 0
 neededOf (NoRoom n) = n
-
--- the answer that a refusal is
-abbrev pub refusalOf : Refusal → Answer
-refusalOf r = refused (numberOf r) (lineOf r) (neededOf r)

@@ -1,12 +1,12 @@
 -- Single outcomes: two outcomes that meet the promise of a public function of this crate are equal.
 use mathlib.Core.Path.{_≡_, sym, _∙_}
 use Rattle.octets.proofs.Single.{OneResult}
-use Rattle.job.proofs.Refusal.number.Kinds as refusal-number-kinds
-use Rattle.job.proofs.Refusal.number.Reads as refusal-number
-use Rattle.job.proofs.Refusal.line.Kinds as refusal-line-kinds
-use Rattle.job.proofs.Refusal.line.Reads as refusal-line
-use Rattle.job.proofs.Refusal.needed.Kinds as refusal-needed-kinds
-use Rattle.job.proofs.Refusal.needed.Reads as refusal-needed
+use Rattle.judge.proofs.Refusal.number.Kinds as refusal-number-kinds
+use Rattle.judge.proofs.Refusal.number.Reads as refusal-number
+use Rattle.judge.proofs.Refusal.line.Kinds as refusal-line-kinds
+use Rattle.judge.proofs.Refusal.line.Reads as refusal-line
+use Rattle.judge.proofs.Refusal.needed.Kinds as refusal-needed-kinds
+use Rattle.judge.proofs.Refusal.needed.Reads as refusal-needed
 
 refusal-number-single : OneResult refusal-number-kinds.ps refusal-number-kinds.r refusal-number.Post
 refusal-number-single κs a z z′ e e′ p p′ = p ∙ sym p′

@@ -1,0 +1,150 @@
+-- What the walk over the lines goes by: what a line says, and the tables and the open program read as a stage of the definition.
+use mathlib.Core.Path.{_≡_}
+use mathlib.Core.Bool.{true, cond}
+use mathlib.Core.Option.{some}
+use mathlib.Core.List.{List, [], _∷_, _++_}
+use Prim.Native.Nat.{ℕ, zero, suc, _+_, _-_, _≤_, _<_}
+use lib.ListN.{length, take, drop, set}
+use lib.Dec.{eqb}
+use Rattle.lines.specs.Lines.{lines}
+use Rattle.frames.specs.Frames.{frameOf}
+use Rattle.frames.specs.Shown.{shown, Placed}
+use Rattle.ast.specs.declared.Name.{Name}
+use Rattle.object.specs.declared.Program.{Program}
+use Rattle.object.specs.declared.BpfObject.{BpfObject}
+use Rattle.object.specs.declared.Added.{Added}
+use Rattle.object.specs.Tables.{done, withLicense, addedMap, withProgram, addedProgram}
+use Rattle.judge.specs.Checked.{Stage, takeLines, Checked, accepted, faulty}
+use Rattle.judge.specs.Judged.{Framed, lineBytes}
+use Rattle.ast.specs.Job as job
+use Rattle.object.specs.declared.Entry.{Entry}
+use Rattle.object.specs.declared.Slot.{Slot}
+use Rattle.object.specs.Read.{licenceIn, declaredMaps, programIn, programsIn, jobIn}
+use Rattle.object.specs.Kept.{Kept}
+use Rattle.judge.specs.Refusal.{numberOf, lineOf}
+use Rattle.judge.specs.declared.Refusal.{Refusal}
+use Rattle.judge.specs.declared.Declaration.{Declaration}
+use Rattle.judge.specs.declared.Declaration.the-variants as declaration
+use Rattle.job.specs.declared.Built.{Built}
+use Rattle.job.specs.declared.Parsing.{Parsing}
+use Rattle.job.specs.declared.Parsing.the-variants as parsing
+use Rattle.job.specs.declared.Parsed.{Parsed}
+use Rattle.job.specs.declared.LineRead.{LineRead}
+use Rattle.job.specs.declared.LineRead.the-variants.{Is, NotLine}
+
+-- ---- lines
+
+-- the line from `at` to `end` is the next one, and its LF stands at `end`
+pub record Next (text : List ℕ) (at end : ℕ) : Type 0 where
+  pub framed : Framed text at end
+  pub inside : end < length text
+  pub is : lines (drop at text) ≡ record { text = take (end - at) (drop at text); ended = true } ∷ lines (drop (end + 1) text)
+
+abbrev pub LineSays : List ℕ → ℕ → LineRead → Type 0
+LineSays text at (Is frame end) =
+    Next text at end × (shown (lineBytes text at end) frame ≡ frameOf (lineBytes text at end)) × Placed (lineBytes text at end) frame
+LineSays text at NotLine = (s : Stage) → takeLines s (lines (drop at text)) ≡ faulty 2 (suc (s .lines))
+
+-- ---- the open program
+
+abbrev pub openedAt : Name → Name → ℕ → ℕ → Program
+openedAt section symbol from first =
+    record { section = section; symbol = symbol; from = from; lines = 0; «code_len» = 0; first = first; relocs = 0 }
+
+abbrev pub codeAdded : Program → ℕ → Program
+codeAdded p n =
+    record {
+      section = p .section;
+      symbol = p .symbol;
+      from = p .from;
+      lines = p .lines + 1;
+      «code_len» = p .«code_len» + n;
+      first = p .first;
+      relocs = p .relocs;
+    }
+
+abbrev pub relocAdded : Program → Program
+relocAdded p =
+    record {
+      section = p .section;
+      symbol = p .symbol;
+      from = p .from;
+      lines = p .lines + 1;
+      «code_len» = p .«code_len»;
+      first = p .first;
+      relocs = p .relocs + 1;
+    }
+
+-- the object with the open program, where `opened` is not 0
+abbrev pub closedOf : BpfObject → ℕ → Program → Added
+closedOf o opened p = cond (eqb opened 0) (done o) (addedProgram o p)
+
+-- the same object, where there is room
+abbrev pub closedObject : BpfObject → ℕ → Program → BpfObject
+closedObject o zero p = o
+closedObject o (suc k) p = withProgram o p
+
+-- the object with one relocation more
+abbrev pub withSlot : BpfObject → Entry → BpfObject
+withSlot o e =
+    record {
+      license = o .license;
+      maps = o .maps;
+      «map_at» = o .«map_at»;
+      «map_len» = o .«map_len»;
+      «map_count» = o .«map_count»;
+      programs = o .programs;
+      «program_count» = o .«program_count»;
+      slots = set (o .slots) (o .«reloc_count») (record { entry = e });
+      «reloc_count» = o .«reloc_count» + 1;
+    }
+
+-- ---- steps
+
+abbrev pub builtWith : Added → ℕ → Program → Built
+builtWith a opened p = record { answer = a .answer; object = a .object; opened = opened; program = p }
+
+abbrev pub builtOf : BpfObject → ℕ → Program → Declaration → ℕ → Built
+builtOf o opened p (declaration.License n) from = builtWith (withLicense o n) opened p
+builtOf o opened p (declaration.Map d n) from = builtWith (addedMap o d n) opened p
+builtOf o opened p (declaration.Program a b) from = builtWith (closedOf o opened p) 1 (openedAt a b from (o .«reloc_count»))
+
+-- ---- the tables and the open program as a stage
+
+abbrev pub openIn : List ℕ → List Slot → ℕ → Program → List job.Program
+openIn text slots zero p = []
+openIn text slots (suc k) p = programIn text slots p ∷ []
+
+abbrev pub stageIn : List ℕ → BpfObject → ℕ → Program → ℕ → Stage
+stageIn text o opened p n =
+    record {
+      lines = n;
+      relocations = o .«reloc_count»;
+      job =
+          record {
+            licence = licenceIn text (o .license);
+            maps = declaredMaps text o;
+            programs = programsIn text (o .slots) (take (o .«program_count») (o .programs)) ++ openIn text (o .slots) opened p;
+          };
+    }
+
+-- ---- the answer
+
+abbrev pub refusedWith : Refusal → BpfObject → Parsed
+refusedWith r o = record { answer = parsing.Refused r; object = o }
+
+-- the answer as the definition has it: the tables read as a job, or the refusal's number and line
+abbrev pub parsingIn : List ℕ → Parsing → BpfObject → Checked
+parsingIn text parsing.Accepted o = accepted (jobIn text o)
+parsingIn text (parsing.Refused r) o = faulty (numberOf r) (lineOf r)
+
+abbrev pub parsedIn : List ℕ → Parsed → Checked
+parsedIn text r = parsingIn text (r .answer) (r .object)
+
+-- what is known of the tables of an accepted job
+abbrev pub ParsingKept : List ℕ → Parsing → BpfObject → Type 0
+ParsingKept text parsing.Accepted o = Kept text o
+ParsingKept text (parsing.Refused r) o = Unit
+
+abbrev pub ParsedKept : List ℕ → Parsed → Type 0
+ParsedKept text r = ParsingKept text (r .answer) (r .object)

@@ -1,0 +1,6 @@
+pub mod Names
+pub mod Flaws
+pub mod Pieces
+pub mod Judge
+pub mod Relocation
+pub mod Single

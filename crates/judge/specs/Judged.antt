@@ -1,0 +1,86 @@
+-- What a verdict says of a line: what the table of refusals does with its bytes, in every stage that the counts count.
+use mathlib.Core.Path.{_≡_}
+use mathlib.Core.Bool.{true}
+use mathlib.Core.Option.{some}
+use mathlib.Core.List.{List, []}
+use Prim.Native.Nat.{ℕ, suc, _+_, _-_, _*_, _/_, _≤_, _<_}
+use lib.ListN.{length, take, drop}
+use Rattle.lines.specs.Hex.{isHex, bytesIn}
+use Rattle.frames.specs.Frames.{Frame, licence, mapDecl, program, code, relocation, frameOf}
+use Rattle.ast.specs.declared.Name.{Name}
+use Rattle.ast.specs.declared.MapDecl.{MapDecl}
+use Rattle.octets.specs.Octets.{value}
+use Rattle.object.specs.Read.{nameIn, mapsIn, entryIn, frameCode}
+use Rattle.object.specs.Kept.{Named, ResolvedEntry}
+use Rattle.judge.specs.Checked.{Stage, takeBytes, went, stopped, advance}
+use Rattle.judge.specs.Refusal.{numberOf, lineOf}
+use Rattle.judge.specs.declared.Counts.{Counts}
+use Rattle.judge.specs.declared.Declaration.{Declaration}
+use Rattle.judge.specs.declared.Declaration.the-variants as declaration
+use Rattle.judge.specs.declared.Verdict.{Verdict}
+use Rattle.judge.specs.declared.Verdict.the-variants as verdict
+
+-- a line whose hexadecimal stands from `at` to `end`
+pub record Framed (text : List ℕ) (at end : ℕ) : Type 0 where
+  pub few : length text ≤ 65535
+  pub first : at + 2 ≤ end
+  pub last : end ≤ length text
+  pub hex : isHex (take (end - at) (drop at text)) ≡ true
+
+abbrev pub lineBytes : List ℕ → ℕ → ℕ → List ℕ
+lineBytes text at end = bytesIn (take (end - at) (drop at text))
+
+-- the line is this frame
+abbrev pub Says : List ℕ → ℕ → ℕ → Frame → Type 0
+Says text at end f = frameOf (lineBytes text at end) ≡ some f
+
+-- the name that the characters from `from` to `end` give
+abbrev pub nameAt : ℕ → ℕ → Name
+nameAt from end = record { at = from; len = (end - from) / 2 }
+
+-- what the code counts of a stage
+pub record Agrees (s : Stage) (k : Counts) : Type 0 where
+  pub lines : s .lines ≡ k .lines
+  pub maps : length (s .job .maps) ≡ k .maps
+  pub programs : length (s .job .programs) ≡ k .programs
+  pub relocs : s .relocations ≡ k .relocs
+
+-- the stage's maps are those whose names stand in the arrays
+pub record Held (text ats lens : List ℕ) (s : Stage) : Type 0 where
+  pub decls : List MapDecl
+  pub enough : length (s .job .maps) ≤ length decls
+  pub is :
+      s .job .maps
+      ≡ mapsIn text (take (length (s .job .maps)) decls) (take (length (s .job .maps)) ats) (take (length (s .job .maps)) lens)
+
+-- frames by the parts of their bytes
+abbrev pub mapFrameOf : MapDecl → List ℕ → Frame
+mapFrameOf d name = mapDecl (d .«map_type») (d .«key_type») (d .«value_type») (d .«max_entries») name
+
+abbrev pub programFrameOf : ℕ → List ℕ → Frame
+programFrameOf symbol bs = program (take (symbol - 2) (drop 2 bs)) (drop symbol bs)
+
+abbrev pub relocationFrameOf : List ℕ → Frame
+relocationFrameOf bs = relocation (value (take 8 (drop 1 bs))) (drop 9 bs)
+
+-- what is known where a frame adds to the tables
+abbrev pub Declared : List ℕ → Stage → Declaration → Type 0
+Declared text s (declaration.License n) = Named text n × (s .lines ≡ 0)
+Declared text s (declaration.Map d n) = Named text n × (length (s .job .maps) < 64) × (length (s .job .programs) ≡ 0)
+Declared text s (declaration.Program a b) = Named text a × Named text b × (length (s .job .programs) < 32)
+
+abbrev pub declarationFrame : List ℕ → Declaration → Frame
+declarationFrame text (declaration.License n) = licence (nameIn text n)
+declarationFrame text (declaration.Map d n) = mapFrameOf d (nameIn text n)
+declarationFrame text (declaration.Program a b) = program (nameIn text a) (nameIn text b)
+
+-- `bs` are the line's bytes
+abbrev pub Judged : List ℕ → Stage → List ℕ → Verdict → Type 0
+Judged text s bs (verdict.Declares d) = (takeBytes s bs ≡ went (advance (declarationFrame text d) s)) × Declared text s d
+Judged text s bs (verdict.Code n) =
+    (takeBytes s bs ≡ went (advance (code (frameCode (frameOf bs))) s)) × (length (frameCode (frameOf bs)) ≡ n)
+    × (0 < length (s .job .programs)) × (n ≤ length bs)
+Judged text s bs (verdict.Reloc e) =
+    (takeBytes s bs ≡ went (advance (relocation (entryIn text e .offset) (entryIn text e .map)) s))
+    × ResolvedEntry text (s .job .maps) e × (s .relocations < 256) × (0 < length (s .job .programs)) × (frameCode (frameOf bs) ≡ [])
+Judged text s bs (verdict.Refused r) = (takeBytes s bs ≡ stopped (numberOf r)) × (lineOf r ≡ suc (s .lines))

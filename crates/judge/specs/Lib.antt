@@ -1,0 +1,5 @@
+pub mod Checked
+pub mod Refusal
+pub mod Flaws
+pub mod Names
+pub mod Judged

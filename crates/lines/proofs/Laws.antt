@@ -1,0 +1,173 @@
+-- What the proofs of this crate share, and what callers learn of a line from its end.
+use mathlib.Core.Path.{_≡_, refl, sym, _∙_, ap}
+use mathlib.Core.Bool.{Bool, true, false, cond, _&&_}
+use mathlib.Core.Option.{Option, none, some}
+use mathlib.Core.List.{List, [], _∷_}
+use mathlib.Core.Logic.{_⊎_, inl, inr, ⊎-elim}
+use Prim.Native.Nat.{ℕ, zero, suc, _+_, _-_, _*_, _≤_, _<_}
+use native.Mathlib.Nat.{add-zero, add-assoc}
+use native.Mathlib.Omega.{arith}
+use lib.Dec.{eqb, leb}
+use Rattle.octets.specs.Octets.{within}
+use lib.ListN.{length, take, drop, getD, length-drop}
+use lib.Seq.{drop-drop}
+use borrow.Author.Tests.{eq-eqb, ne-eqb, leb-true}
+use Rattle.lines.specs.Lines.{Line, lines, before, digit, pair, unhex}
+use Rattle.octets.proofs.Laws.{read-on, read-done}
+use Rattle.lines.specs.declared.LineEnd.{LineEnd}
+use Rattle.lines.specs.declared.LineEnd.the-variants.{Ended, Cut}
+use Rattle.lines.specs.Ends.{endOf, lineEnd}
+use Rattle.lines.specs.Hex.{there, bytesOf}
+
+-- ---- the end of a line
+
+pub before-end : (i c : ℕ) (ls : List Line) → endOf i (before c ls) ≡ endOf (i + 1) ls
+before-end i c [] = refl
+before-end i c (l ∷ ls) =
+    let e : i + suc (length (l .text)) ≡ i + 1 + length (l .text) = omega arith in
+    ap (λ (n : ℕ). cond (l .ended) (Ended n) Cut) e
+
+pub end-on : (s : List ℕ) (i : ℕ) → i < length s → (getD s i 0 ≡ 10 → ⊥) → lineEnd s i ≡ lineEnd s (i + 1)
+end-on s i h n = rw (read-on s i h) (simp (ne-eqb _ _ n) (before-end i (getD s i 0) (lines (drop (i + 1) s))))
+
+pub end-here : (s : List ℕ) (i : ℕ) → i < length s → getD s i 0 ≡ 10 → lineEnd s i ≡ Ended i
+end-here s i h e = rw (read-on s i h) (simp (eq-eqb _ _ e, add-zero))
+
+pub end-none : (s : List ℕ) (i : ℕ) → length s ≤ i → lineEnd s i ≡ Cut
+end-none s i h = rw (read-done s i h)
+
+-- ---- hexadecimal
+
+pub there-pair : (x y : Option ℕ) (z : Option (List ℕ)) → there (pair x y z) ≡ (there x && there y && there z)
+there-pair none y z = refl
+there-pair (some a) none z = refl
+there-pair (some a) (some b) none = refl
+there-pair (some a) (some b) (some z) = refl
+
+-- two characters more
+pub hex-on : (s : List ℕ) (i : ℕ) → i + 1 < length s
+    → there (unhex (drop i s)) ≡ (there (digit (getD s i 0)) && there (digit (getD s (i + 1) 0)) && there (unhex (drop (i + 2) s)))
+hex-on s i h =
+    let e : i + 1 + 1 ≡ i + 2 = omega arith in
+    let k : i < length s = omega arith in
+    rw (read-on s i k, read-on s (i + 1) h, e) (there-pair (digit (getD s i 0)) (digit (getD s (i + 1) 0)) (unhex (drop (i + 2) s)))
+
+-- one character alone
+pub hex-odd : (s : List ℕ) (i : ℕ) → length s - i ≡ 1 → there (unhex (drop i s)) ≡ false
+hex-odd s i h =
+    let k : i < length s = omega arith in
+    let l : length s ≤ i + 1 = omega arith in
+    rw (read-on s i k, read-done s (i + 1) l)
+
+pub hex-done : (s : List ℕ) (i : ℕ) → length s ≤ i → there (unhex (drop i s)) ≡ true
+hex-done s i h = rw (read-done s i h)
+
+-- ---- what callers learn of a line from its end
+
+abbrev pub line : List ℕ → Line
+line text = record { text = text; ended = true }
+
+not-ended : (e : ℕ) → Cut ≡ Ended e → ⊥
+not-ended e h = let z : _≡_ {A = ℕ} 0 1 = cc in omega arith
+
+same-end : (a e : ℕ) → Ended a ≡ Ended e → a ≡ e
+same-end a e h = cc
+
+split : (bs : List ℕ) (at e : ℕ) → endOf at (lines bs) ≡ Ended e
+    → (at ≤ e) × (e - at < length bs) × (lines bs ≡ line (take (e - at) bs) ∷ lines (drop (e + 1 - at) bs))
+split [] at e h = absurd (not-ended e h)
+split (c ∷ cs) at e h = go (eqb c 10) refl (split cs (at + 1) e)
+  where
+    go : (b : Bool) → eqb c 10 ≡ b
+        → (endOf (at + 1) (lines cs) ≡ Ended e → (at + 1 ≤ e) × (e - (at + 1) < length cs) × (lines cs ≡ line (take (e - (at + 1)) cs) ∷ lines (drop (e + 1 - (at + 1)) cs)))
+        → (at ≤ e) × (e - at < length (c ∷ cs)) × (lines (c ∷ cs) ≡ line (take (e - at) (c ∷ cs)) ∷ lines (drop (e + 1 - at) (c ∷ cs)))
+    go true t ih =
+        let k : at + 0 ≡ e = same-end (at + 0) e (simp t at h) in
+        let z : e - at ≡ 0 = omega arith in
+        let y : e + 1 - at ≡ 1 = omega arith in
+        (omega arith, omega arith, rw (z, y) (simp t))
+    go false t ih =
+        let h′ : endOf at (before c (lines cs)) ≡ Ended e = simp t at h in
+        let r = ih (sym (before-end at c (lines cs)) ∙ h′) in
+        let p : at + 1 ≤ e = r .0 in
+        let q : e - (at + 1) < length cs = r .1 in
+        let z : e - at ≡ suc (e - (at + 1)) = omega arith in
+        let y : e + 1 - at ≡ suc (e + 1 - (at + 1)) = omega arith in
+        (omega arith, omega arith, rw (z, y) (simp t (ap (before c) (r .2))))
+
+pub line-ended : (s : List ℕ) (at e : ℕ) → lineEnd s at ≡ Ended e
+    → (at ≤ e) × (e < length s) × (lines (drop at s) ≡ line (take (e - at) (drop at s)) ∷ lines (drop (e + 1) s))
+line-ended s at e h =
+    let r = split (drop at s) at e h in
+    let p : at ≤ e = r .0 in
+    let q : e - at < length s - at = rw length-drop at (r .1) in
+    let z : at + (e + 1 - at) ≡ e + 1 = omega arith in
+    (p, omega arith, r .2 ∙ ap (λ (b : List ℕ). line (take (e - at) (drop at s)) ∷ lines b) (drop-drop (e + 1 - at) at s ∙ ap (λ (k : ℕ). drop k s) z))
+
+abbrev pub cut : List ℕ → Line
+cut text = record { text = text; ended = false }
+
+-- no LF in what is left
+pub no-end : (bs : List ℕ) (at : ℕ) → endOf at (lines bs) ≡ Cut → (lines bs ≡ cut bs ∷ []) ⊎ (bs ≡ [])
+no-end [] at h = inr refl
+no-end (c ∷ cs) at h = inl (go (eqb c 10) refl (no-end cs (at + 1)))
+  where
+    go : (b : Bool) → eqb c 10 ≡ b → (endOf (at + 1) (lines cs) ≡ Cut → (lines cs ≡ cut cs ∷ []) ⊎ (cs ≡ [])) → lines (c ∷ cs) ≡ cut (c ∷ cs) ∷ []
+    go true t ih = absurd (not-ended (at + 0) (sym (simp t at h)))
+    go false t ih =
+        let h′ : endOf at (before c (lines cs)) ≡ Cut = simp t at h in
+        ⊎-elim (λ e. simp t (ap (before c) e)) (λ e. simp t (ap (λ (ds : List ℕ). before c (lines ds)) e ∙ ap (λ (ds : List ℕ). cut (c ∷ ds) ∷ []) (sym e)))
+        (ih (sym (before-end at c (lines cs)) ∙ h′))
+
+pub line-cut : (s : List ℕ) (at : ℕ) → at < length s → lineEnd s at ≡ Cut → lines (drop at s) ≡ cut (drop at s) ∷ []
+line-cut s at h e =
+    ⊎-elim (λ k. k) (λ k. let l : length s - at ≡ 0 = sym (length-drop at s) ∙ ap length k in absurd (omega arith)) (no-end (drop at s) at e)
+
+-- ---- digits
+
+pub no : false ≡ true → ⊥
+no e = let z : _≡_ {A = ℕ} 0 1 = cc in omega arith
+
+pub both : (a b : Bool) → (a && b) ≡ true → (a ≡ true) × (b ≡ true)
+both true b e = (refl, e)
+both false b e = absurd (no e)
+
+pub within-true : (a z n : ℕ) → within a z n ≡ true → (a ≤ n) × (n ≤ z)
+within-true a z n e = let r = both (leb a n) (leb n z) e in (leb-true a n (r .0), leb-true n z (r .1))
+
+pub digits : (c : ℕ) → there (digit c) ≡ true → ((48 ≤ c) × (c ≤ 57)) ⊎ ((97 ≤ c) × (c ≤ 102))
+digits c e = go (within 48 57 c) refl (within 97 102 c) refl
+  where
+    go : (b : Bool) → within 48 57 c ≡ b → (d : Bool) → within 97 102 c ≡ d → ((48 ≤ c) × (c ≤ 57)) ⊎ ((97 ≤ c) × (c ≤ 102))
+    go true p d q = inl (within-true 48 57 c p)
+    go false p true q = inr (within-true 97 102 c q)
+    go false p false q = absurd (no (sym (simp (p, q)) ∙ e))
+
+-- what two digits give, before the bytes of the rest
+pub pair-on : (x y : ℕ) (a b : Option ℕ) (z : Option (List ℕ)) → some x ≡ a → some y ≡ b → there z ≡ true
+    → bytesOf (pair a b z) ≡ (x * 16 + y) ∷ bytesOf z
+pair-on x y a b none p q t = absurd (no t)
+pair-on x y a b (some z) p q t = rw (← p, ← q)
+
+module _ (s : List ℕ) (at : ℕ) (h : at + 1 < length s) (t : there (unhex (drop at s)) ≡ true) where
+  three : (there (digit (getD s at 0)) && there (digit (getD s (at + 1) 0)) && there (unhex (drop (at + 2) s))) ≡ true
+  three = sym (hex-on s at h) ∙ t
+
+  two : ((there (digit (getD s at 0)) && there (digit (getD s (at + 1) 0))) ≡ true) × (there (unhex (drop (at + 2) s)) ≡ true)
+  two = both (there (digit (getD s at 0)) && there (digit (getD s (at + 1) 0))) (there (unhex (drop (at + 2) s))) three
+
+  pub high : there (digit (getD s at 0)) ≡ true
+  high = both (there (digit (getD s at 0))) (there (digit (getD s (at + 1) 0))) (two .0) .0
+
+  pub low : there (digit (getD s (at + 1) 0)) ≡ true
+  low = both (there (digit (getD s at 0))) (there (digit (getD s (at + 1) 0))) (two .0) .1
+
+  pub later : there (unhex (drop (at + 2) s)) ≡ true
+  later = two .1
+
+  pub byte-on : (x y : ℕ) → some x ≡ digit (getD s at 0) → some y ≡ digit (getD s (at + 1) 0)
+      → bytesOf (unhex (drop at s)) ≡ (x * 16 + y) ∷ bytesOf (unhex (drop (at + 2) s))
+  byte-on x y p q =
+      let e : at + 1 + 1 ≡ at + 2 = omega arith in
+      let k : at < length s = omega arith in
+      rw (read-on s at k, read-on s (at + 1) h, e) (pair-on x y _ _ (unhex (drop (at + 2) s)) p q later)

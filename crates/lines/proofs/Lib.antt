@@ -1,0 +1,5 @@
+pub mod Laws
+pub mod Bytes
+pub mod Same
+pub mod Parts
+pub mod Single

@@ -1,0 +1,4 @@
+pub mod Read
+pub mod Programs
+pub mod Counts
+pub mod Single

@@ -1,0 +1,10 @@
+pub mod Wrong
+pub mod Strings
+pub mod Sections
+pub mod Symbols
+pub mod Types
+pub mod Maps
+pub mod Programs
+pub mod Bounds
+pub mod Loading
+pub mod Accepted
