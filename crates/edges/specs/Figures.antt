@@ -10,7 +10,7 @@ use Rattle.octets.specs.Octets.{ascii, equal}
 use Rattle.reading.specs.Steps.{_>>=_, field, keep, only, numbered}
 use Rattle.reading.specs.Sections.{Header, Named, readSections, readNames, contents}
 use Rattle.reading.specs.Programs.{readSymbols}
-use Rattle.job.specs.Lines.{unhex}
+use Rattle.lines.specs.Lines.{unhex}
 
 pub data Figure : Type 0 where
   -- the object's length, the section table's place, the number of section headers

@@ -2,5 +2,3 @@ pub mod Lines
 pub mod Walking
 pub mod Body
 pub mod Steps
-pub mod WithinFrames
-pub mod Within

@@ -1,5 +1,2 @@
-pub mod Lines
-pub mod Frames
-pub mod Checked
 pub mod Answer
 pub mod Walked

@@ -7,13 +7,13 @@ ghost use Rattle.object.specs.Tables.{Sound};
 ghost use Rattle.judge.specs.Checked.{takeLines, empty, checked};
 ghost use Rattle.lines.specs.Lines.{lines};
 ghost use Rattle.job.specs.Walked.{LineSays, openedAt, codeAdded, relocAdded, closedOf, builtOf, builtWith, refusedWith, parsedIn, ParsedKept};
+use ast::Name;
 use frames::Frame;
 use judge::Counts;
 use judge::Declaration;
 use judge::Refusal;
 use judge::Verdict;
 use lines::LineEnd;
-use ast::Name;
 use object::Added;
 use object::Adding;
 use object::BpfObject;
@@ -104,14 +104,24 @@ struct Built {
 }
 
 // What a declaration adds: a licence, a map, or a program, which closes the one that was open. The new one's body starts at `from`.
-fn build(object: BpfObject, opened: usize, program: Program, declaration: Declaration, from: usize) -> Built
+fn build(
+    object: BpfObject,
+    opened: usize,
+    program: Program,
+    declaration: Declaration,
+    from: usize,
+) -> Built
     requires { ⌜ Sound object ⌝ }
     requires { ⌜ from < 65536 ⌝ }
     ensures { λ r. ⌜ r ≡ builtOf object opened program declaration from ⌝ }
 {
     match declaration {
         Declaration::License(name) => with_program(object.add_license(name), opened, program),
-        Declaration::Map { decl, name } => with_program(object.add_map(decl, name), opened, program),
+        Declaration::Map { decl, name } => with_program(
+            object.add_map(decl, name),
+            opened,
+            program,
+        ),
         Declaration::Program { section, symbol } => {
             let first = object.reloc_count;
             let next = opened_at(section, symbol, from, first);
@@ -175,7 +185,15 @@ fn walk(text: &[u8]) -> Parsed
             programs: object.program_count + opened,
             relocs: object.reloc_count,
         };
-        let verdict = judge::judge_frame(text, &object.map_at, &object.map_len, at, end, frame, counts);
+        let verdict = judge::judge_frame(
+            text,
+            &object.map_at,
+            &object.map_len,
+            at,
+            end,
+            frame,
+            counts,
+        );
         at = end + 1;
         count += 1;
         match verdict {

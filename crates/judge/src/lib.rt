@@ -242,7 +242,14 @@ fn judge_license(text: &[u8], at: usize, end: usize, lines: usize) -> Verdict
 }
 
 // A map's declaration: maps precede programs.
-fn judge_map(text: &[u8], at: usize, end: usize, decl: MapDecl, name: usize, counts: Counts) -> Verdict
+fn judge_map(
+    text: &[u8],
+    at: usize,
+    end: usize,
+    decl: MapDecl,
+    name: usize,
+    counts: Counts,
+) -> Verdict
     requires { ⌜ Framed (now text) at end ⌝ }
     requires { ⌜ counts .lines < 65536 ⌝ }
     requires { ⌜ (1 ≤ name) × (name ≤ length (lineBytes (now text) at end)) ⌝ }
@@ -299,7 +306,14 @@ fn judge_code(n: usize, counts: Counts) -> Verdict
 }
 
 // A relocation: it belongs to the open program, and its map is declared.
-fn judge_relocation<'a>(text: &[u8], ats: &'a [u16], lens: &'a [u8], at: usize, end: usize, counts: Counts) -> Verdict
+fn judge_relocation<'a>(
+    text: &[u8],
+    ats: &'a [u16],
+    lens: &'a [u8],
+    at: usize,
+    end: usize,
+    counts: Counts,
+) -> Verdict
     requires { ⌜ Framed (now text) at end ⌝ }
     requires { ⌜ counts .lines < 65536 ⌝ }
     requires { ⌜ counts .maps ≤ 64 ⌝ }

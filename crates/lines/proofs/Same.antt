@@ -18,7 +18,6 @@ pub record Digit (c n : ℕ) : Type 0 where
   pub small : n < 16
   pub is : n + 48 + 39 * ((n + 6) / 16) ≡ c
 
-
 low-digit : (c : ℕ) → 48 ≤ c → c ≤ 57 → Digit c (numberOf (digit c))
 low-digit c h g =
     let e : numberOf (digit c) ≡ c - 48 = simp (le-leb 48 c h, le-leb c 57 g) in

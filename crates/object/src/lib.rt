@@ -80,7 +80,9 @@ pub struct Added {
 
 impl BpfObject {
     pub const MAPS: usize = 64;
+
     pub const PROGRAMS: usize = 32;
+
     pub const RELOCATIONS: usize = 256;
 
     pub fn new() -> Self

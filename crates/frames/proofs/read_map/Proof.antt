@@ -96,9 +96,11 @@ returns-6 c =
     let g = c .before .before .before .before in
     let f = g .before .before .before .before in
     let d = f .before .before .before .before .before .before in
-    let s = bytesIn (d .before .before .before .before .before .before .args .s .now) in
-    (map-no-count s _ _ (d .before .before .before .byte-at .ensures) (f .before .before .before .before .byte-at2 .ensures) (long d) _ (kind-is d) (omega arith) _ (key-is f) _ (value-is g)
-    (sym (ap (countOf s) (c .enum-told4 .given .1)) ∙ c .before .before .read-count .ensures .0), tt)
+    let s = bytesIn (d .before .before .before .before .before .before .args .s .now) in (
+      map-no-count s _ _ (d .before .before .before .byte-at .ensures) (f .before .before .before .before .byte-at2 .ensures) (long d) _ (kind-is d) (omega arith) _ (key-is f) _ (value-is g)
+          (sym (ap (countOf s) (c .enum-told4 .given .1)) ∙ c .before .before .read-count .ensures .0),
+      tt,
+    )
 
 returns-7 : tie.Need-returns-7
 returns-7 c =
@@ -108,7 +110,7 @@ returns-7 c =
     let d = f .before .before .before .before .before .before in
     let s = bytesIn (d .before .before .before .before .before .before .args .s .now) in (
       map-ok s _ _ (d .before .before .before .byte-at .ensures) (f .before .before .before .before .byte-at2 .ensures) (long d) _ (kind-is d) (omega arith) _ (key-is f) _ (value-is g) _
-      (sym (ap (countOf s) (t .third .given .1)) ∙ t .before .before .read-count .ensures .0),
+          (sym (ap (countOf s) (t .third .given .1)) ∙ t .before .before .read-count .ensures .0),
       (omega (arith, key-in f, value-in g, count-in t), count-in t .1),
     )
 

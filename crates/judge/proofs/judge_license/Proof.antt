@@ -76,9 +76,9 @@ returns-3 c =
     let k = clear d in
     λ s e. rw (c .name-at .ensures) (
       goes s (licence t) (bytes p) (p .pre .1 .1)
-      (judged-free s (licence t) (bytes p) (not (isText t) || hasZero t) (long t) false (p .args .lines + 1) none (q .fault-of .result) (p .pre .1 .1)
-      (licence-reasons s t (p .args .lines + 1) (omega arith)) (found q) (d .enum-told .given .1))
-      ∙ ap (λ (n : List ℕ). went (advance (licence n) s)) (sym (piece-name (piece p))),
+          (judged-free s (licence t) (bytes p) (not (isText t) || hasZero t) (long t) false (p .args .lines + 1) none (q .fault-of .result) (p .pre .1 .1)
+          (licence-reasons s t (p .args .lines + 1) (omega arith)) (found q) (d .enum-told .given .1))
+          ∙ ap (λ (n : List ℕ). went (advance (licence n) s)) (sym (piece-name (piece p))),
       (piece-named (piece p) (omega (arith, p .pre .0 .first)) (p .pre .0 .last) (not-false (isText t) (left-false (not (isText t)) (hasZero t) (k .good))) (k .short), omega arith),
     )
 

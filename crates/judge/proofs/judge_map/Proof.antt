@@ -114,9 +114,9 @@ returns-3 c =
     let m = leb-false 64 (p .args .counts .maps) (k .room) in
     λ s e. rw (c .name-at .ensures) (
       goes s (frame p) (bytes p) (p .pre .1 .1 .1)
-      (judged-free s (frame p) (bytes p) (not (isText t)) (long t) (leb 64 (p .args .counts .maps)) (p .args .counts .lines + 1) none (q .fault-of .result) (p .pre .1 .1 .1)
-      (table p s e (omega arith)) (found q) (d .enum-told .given .1))
-      ∙ ap (λ (n : List ℕ). went (advance (mapFrameOf (p .args .decl) n) s)) (sym (piece-name (piece p))),
+          (judged-free s (frame p) (bytes p) (not (isText t)) (long t) (leb 64 (p .args .counts .maps)) (p .args .counts .lines + 1) none (q .fault-of .result) (p .pre .1 .1 .1)
+          (table p s e (omega arith)) (found q) (d .enum-told .given .1))
+          ∙ ap (λ (n : List ℕ). went (advance (mapFrameOf (p .args .decl) n) s)) (sym (piece-name (piece p))),
       (piece-named (piece p) (inside p) (p .pre .0 .last) (not-false (isText t) (k .good)) (k .short), omega (arith, e .maps), omega (arith, e .programs)),
     )
 

@@ -150,9 +150,9 @@ returns-2 c =
     let m = leb-false 32 (p .args .counts .programs) (clear d .room) in
     λ s e. rw (c .before .name-at .ensures, c .name-at2 .ensures) (
       goes s (frame p) (bytes p) (p .pre .1 .1 .1)
-      (judged-free s (frame p) (bytes p) (bad p) (tooLong p) (leb 32 (p .args .counts .programs)) (p .args .counts .lines + 1) none (q .fault-of .result) (p .pre .1 .1 .1)
-      (table p s e) (found q) (d .enum-told .given .1))
-      ∙ named s (piece-name (first-piece p)) (piece-name (second-piece p)),
+          (judged-free s (frame p) (bytes p) (bad p) (tooLong p) (leb 32 (p .args .counts .programs)) (p .args .counts .lines + 1) none (q .fault-of .result) (p .pre .1 .1 .1)
+          (table p s e) (found q) (d .enum-told .given .1))
+          ∙ named s (piece-name (first-piece p)) (piece-name (second-piece p)),
       (
         piece-named (first-piece p) (omega (arith, p .pre .1 .1 .0)) (omega (arith, inside p, p .pre .0 .last)) (text-section d) (short-section d),
         piece-named (second-piece p) (inside p) (p .pre .0 .last) (text-symbol d) (short-symbol d),

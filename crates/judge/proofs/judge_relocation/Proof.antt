@@ -151,7 +151,7 @@ returns-3 c =
     let l : lastMap (given p) (s .job .maps) ≡ some (m .map .given .0 .0) = sym (lookup f s e h) ∙ ap foundOf (m .map .given .1) in
     let r = reading (a .text .now) (a .at) (a .end) (p .pre .0) (inside p) in (
       goes s (frame p) (bytes p) (p .pre .1 .1 .1 .1 .1) (free d s e ∙ declared-some s (value (take 8 (drop 1 (bytes p)))) (given p) _ l)
-      ∙ ap (λ (x : Frame). went (advance x s)) (sym (r .frame)),
+          ∙ ap (λ (x : Frame). went (advance x s)) (sym (r .frame)),
       record {
         inside = omega (arith, inside p, p .pre .0 .last);
         hex = r .hex;

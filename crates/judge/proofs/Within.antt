@@ -18,8 +18,8 @@ use Rattle.ast.specs.Job.{Map, Relocation, Program, Job}
 use Rattle.ast.specs.declared.CountAttr.the-variants as count
 use Rattle.lines.specs.Lines.{Line, lines, frameBytes}
 use Rattle.frames.specs.Frames.{Frame, licence, mapDecl, program, code, relocation, frameOf}
 use Rattle.judge.specs.Checked.{Stage, empty, Reason, first, long, declares, reasons, onLast, withCode, withRelocation, advance, Step, went, stopped, takeFrame, takeBytes, takeLine, Checked, accepted, faulty, takeLines, checked}
-use Rattle.job.proofs.WithinFrames.{Holds, LineBytes, line-bytes, total, lines-total, FitFrame, frame-fit}
+use Rattle.judge.proofs.WithinFrames.{Holds, LineBytes, line-bytes, total, lines-total, FitFrame, frame-fit}
 
 -- ---- the record
 

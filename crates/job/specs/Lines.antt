@@ -1,2 +1,0 @@
--- The lines of a job's text, passed on.
-pub use Rattle.lines.specs.Lines.{Line, before, lines, digit, pair, unhex, frameBytes}
