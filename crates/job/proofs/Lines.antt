@@ -16,8 +16,11 @@ use Rattle.lines.specs.declared.LineEnd.the-variants.{Ended, Cut}
 use Rattle.lines.proofs.Laws.{line, cut, line-ended, line-cut, no}
 use Rattle.lines.proofs.Bytes.{bytes-length}
 use Rattle.judge.specs.Checked.{Stage, Checked, Step, takeLine, takeLines, takeBytes, went, stopped, faulty}
-use Rattle.judge.specs.Judged.{Framed, lineBytes}
-use Rattle.job.specs.Walked.{Next}
+use Rattle.judge.specs.Refusal.{numberOf}
+use Rattle.judge.specs.Judged.{Framed, lineBytes, Judged}
+use Rattle.judge.specs.declared.Verdict.{Verdict}
+use Rattle.judge.specs.declared.Verdict.the-variants as verdict
+use Rattle.job.specs.Walked.{Next, Saying}
 
 -- ---- what may be there or not
 
@@ -83,3 +86,10 @@ module _ (text : List ℕ) (at end : ℕ) (next : Next text at end) (s : Stage) 
 
   pub stops-at : (n : ℕ) → takeBytes s (lineBytes text at end) ≡ stopped n → takeLines s (lines (drop at text)) ≡ faulty n (suc (s .lines))
   stops-at n e = ap (takeLines s) (next .is) ∙ rw (on-line (stopped n) e, takeLines)
+
+  -- what a verdict on the line tells of the definition
+  pub saying : (v : Verdict) → Judged text s (lineBytes text at end) v → Saying text at s v end
+  saying (verdict.Refused r) j = stops-at (numberOf r) (j .0) ∙ ap (faulty (numberOf r)) (sym (j .1))
+  saying (verdict.Declares d) j = (next, j)
+  saying (verdict.Code n) j = (next, j)
+  saying (verdict.Reloc e) j = (next, j)

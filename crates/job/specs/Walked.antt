@@ -15,7 +15,13 @@ use Rattle.object.specs.declared.BpfObject.{BpfObject}
 use Rattle.object.specs.declared.Added.{Added}
 use Rattle.object.specs.Tables.{done, withLicense, addedMap, withProgram, addedProgram}
 use Rattle.judge.specs.Checked.{Stage, takeLines, Checked, accepted, faulty}
-use Rattle.judge.specs.Judged.{Framed, lineBytes}
+use Rattle.judge.specs.Judged.{Framed, lineBytes, Judged}
+use Rattle.judge.specs.declared.Counts.{Counts}
+use Rattle.judge.specs.declared.Verdict.{Verdict}
+use Rattle.judge.specs.declared.Verdict.the-variants as verdict
+use Rattle.judge.specs.declared.Refusal.the-variants as refusal
+use Rattle.object.specs.declared.Adding.{Adding}
+use Rattle.object.specs.declared.Adding.the-variants as adding
 use Rattle.ast.specs.Job as job
 use Rattle.object.specs.declared.Entry.{Entry}
 use Rattle.object.specs.declared.Slot.{Slot}
@@ -44,6 +50,16 @@ abbrev pub LineSays : List ℕ → ℕ → LineRead → Type 0
 LineSays text at (Is frame end) =
     Next text at end × (shown (lineBytes text at end) frame ≡ frameOf (lineBytes text at end)) × Placed (lineBytes text at end) frame
 LineSays text at NotLine = (s : Stage) → takeLines s (lines (drop at text)) ≡ faulty 2 (suc (s .lines))
+
+-- what the definition does with the line at `at`: it stops there, or the line is one and is judged
+abbrev pub Saying : List ℕ → ℕ → Stage → Verdict → ℕ → Type 0
+Saying text at s (verdict.Refused r) end = takeLines s (lines (drop at text)) ≡ faulty (numberOf r) (lineOf r)
+Saying text at s (verdict.Declares d) end = Next text at end × Judged text s (lineBytes text at end) (verdict.Declares d)
+Saying text at s (verdict.Code n) end = Next text at end × Judged text s (lineBytes text at end) (verdict.Code n)
+Saying text at s (verdict.Reloc e) end = Next text at end × Judged text s (lineBytes text at end) (verdict.Reloc e)
+
+abbrev pub countsOf : ℕ → ℕ → ℕ → ℕ → Counts
+countsOf lines maps programs relocs = record { lines = lines; maps = maps; programs = programs; relocs = relocs }
 
 -- ---- the open program
 
@@ -132,6 +148,14 @@ stageIn text o opened p n =
 
 abbrev pub refusedWith : Refusal → BpfObject → Parsed
 refusedWith r o = record { answer = parsing.Refused r; object = o }
+
+-- the answer at the end of the text; a table that is full is refused, which the walk's counts rule out
+abbrev pub closedAs : Adding → BpfObject → ℕ → Parsed
+closedAs adding.Done o count = record { answer = parsing.Accepted; object = o }
+closedAs adding.Full o count = refusedWith (refusal.OverLimit count) o
+
+abbrev pub finishedOf : BpfObject → ℕ → Program → ℕ → Parsed
+finishedOf o opened p count = closedAs (closedOf o opened p .answer) (closedOf o opened p .object) count
 
 -- the answer as the definition has it: the tables read as a job, or the refusal's number and line
 abbrev pub parsingIn : List ℕ → Parsing → BpfObject → Checked

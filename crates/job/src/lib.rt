@@ -4,9 +4,11 @@ ghost use mathlib.Core.Path.{_≡_};
 ghost use Prim.Native.Nat.{_+_, _≤_, _<_};
 ghost use lib.ListN.{length};
 ghost use Rattle.object.specs.Tables.{Sound};
-ghost use Rattle.judge.specs.Checked.{takeLines, empty, checked};
+ghost use Rattle.judge.specs.Checked.{Stage, takeLines, empty, checked};
 ghost use Rattle.lines.specs.Lines.{lines};
-ghost use Rattle.job.specs.Walked.{LineSays, openedAt, codeAdded, relocAdded, closedOf, builtOf, builtWith, refusedWith, parsedIn, ParsedKept};
+ghost use Rattle.job.specs.Walked.{LineSays, openedAt, codeAdded, relocAdded, closedOf, builtOf, builtWith, refusedWith, finishedOf, countsOf, Saying, parsedIn, ParsedKept};
+ghost use Rattle.judge.specs.Names.{Names};
+ghost use Rattle.judge.specs.Judged.{Agrees, Held};
 use ast::Name;
 use frames::Frame;
 use judge::Counts;
@@ -40,6 +42,43 @@ fn read_line(text: &[u8], at: usize) -> LineRead
     }
     let frame = frames::read_frame(&text[at..end]);
     LineRead::Is { frame, end }
+}
+
+// What the table does with the line that starts at `at`, and where the line ends.
+struct Said {
+    verdict: Verdict,
+    end: usize,
+}
+
+fn say<'a>(text: &[u8], ats: &'a [u16], lens: &'a [u8], at: usize, counts: Counts) -> Said
+    requires { ⌜ length (now text) ≤ 65535 ⌝ }
+    requires { ⌜ at < length (now text) ⌝ }
+    requires { ⌜ counts .lines < 65536 ⌝ }
+    requires { ⌜ counts .maps ≤ 64 ⌝ }
+    requires { ⌜ Names (now text) (now ats) (now lens) (counts .maps) ⌝ }
+    ensures { λ r. ⌜ r .end < length (now (text .entry)) ⌝ }
+    ensures { λ r. ⌜ ((s : Stage) → Agrees s counts → Held (now (text .entry)) (now (ats .entry)) (now (lens .entry)) s → Saying (now (text .entry)) at s (r .verdict) (r .end)) ⌝ }
+{
+    let read = read_line(text, at);
+    let LineRead::Is { frame, end } = read else {
+        return Said {
+            verdict: Verdict::Refused(Refusal::BadLine(counts.lines + 1)),
+            end: at,
+        };
+    };
+    let verdict = judge::judge_frame(text, ats, lens, at, end, frame, counts);
+    Said { verdict, end }
+}
+
+fn counts_of(lines: usize, maps: usize, programs: usize, relocs: usize) -> Counts
+    ensures { λ r. ⌜ r ≡ countsOf lines maps programs relocs ⌝ }
+{
+    Counts {
+        lines,
+        maps,
+        programs,
+        relocs,
+    }
 }
 
 // A program with no line in its body yet: the body starts at `from`, the relocations at slot `first`.
@@ -175,26 +214,11 @@ fn walk(text: &[u8]) -> Parsed
     let mut count = 0;
     let mut at = 0;
     while at < text.len() {
-        let read = read_line(text, at);
-        let LineRead::Is { frame, end } = read else {
-            return refused(Refusal::BadLine(count + 1), object);
-        };
-        let counts = Counts {
-            lines: count,
-            maps: object.map_count,
-            programs: object.program_count + opened,
-            relocs: object.reloc_count,
-        };
-        let verdict = judge::judge_frame(
-            text,
-            &object.map_at,
-            &object.map_len,
-            at,
-            end,
-            frame,
-            counts,
-        );
-        at = end + 1;
+        let programs = object.program_count + opened;
+        let counts = counts_of(count, object.map_count, programs, object.reloc_count);
+        let said = say(text, &object.map_at, &object.map_len, at, counts);
+        let verdict = said.verdict;
+        at = said.end + 1;
         count += 1;
         match verdict {
             Verdict::Declares(declaration) => {
@@ -221,9 +245,17 @@ fn walk(text: &[u8]) -> Parsed
             }
         }
     }
+    finish(object, opened, program, count)
+}
+
+// The end of the text: the open program is added, and the job is accepted.
+fn finish(object: BpfObject, opened: usize, program: Program, count: usize) -> Parsed
+    requires { ⌜ Sound object ⌝ }
+    ensures { λ r. ⌜ r ≡ finishedOf object opened program count ⌝ }
+{
     let closed = close(object, opened, program);
     let answer = closed.answer;
-    object = closed.object;
+    let object = closed.object;
     let Adding::Done = answer else {
         return refused(Refusal::OverLimit(count), object);
     };

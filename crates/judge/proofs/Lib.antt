@@ -6,3 +6,4 @@ pub mod Relocation
 pub mod WithinFrames
 pub mod Within
 pub mod Single
+pub mod Unknown

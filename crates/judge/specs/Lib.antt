@@ -3,3 +3,4 @@ pub mod Refusal
 pub mod Flaws
 pub mod Names
 pub mod Judged
+pub mod Unknown

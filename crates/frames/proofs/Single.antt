@@ -1,0 +1,48 @@
+-- Single outcomes: two outcomes that meet the promise of `read_frame` are equal. The promise gives the frame that an answer shows and
+-- the bounds of its places, and from these the answer is read back.
+use mathlib.Core.Path.{_≡_, refl, sym, _∙_, ap}
+use mathlib.Core.Bool.{cond}
+use mathlib.Core.Option.{Option, none, some}
+use mathlib.Core.List.{List}
+use Prim.Native.Nat.{ℕ, suc, _-_, _≤_}
+use native.Mathlib.Omega.{arith}
+use lib.Dec.{eqb}
+use lib.ListN.{length, drop, length-drop}
+use borrow.Author.Tests.{eq-eqb, ne-eqb}
+use Rattle.octets.proofs.Single.{OneResult}
+use Rattle.frames.specs.Frames as model
+use Rattle.frames.specs.Shown.{shown, Placed}
+use Rattle.frames.specs.declared.Frame.{Frame}
+use Rattle.frames.specs.declared.Frame.the-variants.{Licence, Map, Program, Code, Relocation, Instruction, Bad}
+use Rattle.frames.proofs.read_frame.Kinds as read-frame-kinds
+use Rattle.frames.proofs.read_frame.Reads as read-frame
+
+-- The answer for a frame of the bytes `bs`. A name at the frame's end tells its place by its length. Code that is all the bytes but the
+-- first stands there itself, and other code is that of an instruction.
+abbrev answer : List ℕ → Option model.Frame → Frame
+answer bs (some (model.licence text)) = Licence
+answer bs (some (model.mapDecl kind key val entries name)) =
+    Map (record { «map_type» = kind; «key_type» = key; «value_type» = val; «max_entries» = entries }) (length bs - length name)
+answer bs (some (model.program section symbol)) = Program (length bs - length symbol)
+answer bs (some (model.code bytes)) = cond (eqb (suc (length bytes)) (length bs)) Code Instruction
+answer bs (some (model.relocation offset name)) = Relocation
+answer bs none = Bad
+
+-- the place of what is left behind it
+place : (bs : List ℕ) (at : ℕ) → at ≤ length bs → length bs - length (drop at bs) ≡ at
+place bs at h = rw length-drop (omega arith)
+
+answer-shown : (bs : List ℕ) (r : Frame) → Placed bs r → answer bs (shown bs r) ≡ r
+answer-shown bs Licence h = refl
+answer-shown bs (Map d at) h = ap (Map d) (place bs at (h .1))
+answer-shown bs (Program at) h = ap Program (place bs at (h .1))
+answer-shown bs Code h = rw (eq-eqb (suc (length (drop 1 bs))) (length bs) (omega (arith, length-drop 1 bs)))
+answer-shown bs Relocation h = refl
+answer-shown bs Instruction h = rw (ne-eqb 9 (length bs) (λ e. omega arith))
+answer-shown bs Bad h = refl
+
+pub shown-once : (bs : List ℕ) (r r′ : Frame) → shown bs r ≡ shown bs r′ → Placed bs r → Placed bs r′ → r ≡ r′
+shown-once bs r r′ e h h′ = sym (answer-shown bs r h) ∙ ap (answer bs) e ∙ answer-shown bs r′ h′
+
+read-frame-single : OneResult read-frame-kinds.ps read-frame-kinds.r read-frame.Post
+read-frame-single κs a z z′ e e′ p p′ = shown-once _ z z′ (p .0 ∙ sym (p′ .0)) (p .1) (p′ .1)

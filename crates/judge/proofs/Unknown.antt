@@ -1,0 +1,291 @@
+-- Refusal 7, exactly: a job is refused 7 at line `l` if and only if `l` is its first faulty line and that line asks for a map that
+-- nobody declared before it. The way there is for every number: a job is refused `n` at `l` exactly when the lines before `l` are taken
+-- and line `l` is refused `n`.
+use mathlib.Core.Path.{_≡_, refl, sym, _∙_, ap}
+use mathlib.Core.Bool.{Bool, true, false, cond}
+use mathlib.Core.Option.{Option, none, some}
+use mathlib.Core.List.{List, [], _∷_, _++_}
+use Prim.Native.Nat.{ℕ, suc, _+_}
+use native.Mathlib.Omega.{arith}
+use lib.ListN.{length}
+use lib.Dec.{ltb, leb, eqb}
+use borrow.Author.Tests.{ltb-false, le-ltb, leb-false, lt-leb, eqb-true, eqb-false, eq-eqb, ne-eqb, not-true, not-false}
+use Rattle.octets.specs.Octets.{equal, ascii}
+use Rattle.octets.proofs.Lists.{All}
+use Rattle.octets.proofs.Tests.{or-false-both, and-true-both}
+use Rattle.text.specs.Utf8.{isText}
+use Rattle.ast.specs.Job.{Map, lastFrom, lastMap}
+use Rattle.lines.specs.Lines.{Line, lines, frameBytes}
+use Rattle.frames.specs.Frames.{Frame, licence, mapDecl, program, code, relocation, frameOf}
+use Rattle.judge.specs.Checked.{Stage, empty, Reason, reason, first, long, declares, reasons, advance, Step, went, stopped, takeFrame, takeBytes, takeLine, Checked, faulty, takeLines, checked}
+use Rattle.judge.specs.Unknown.{stageAfter, Unnamed, Asks, Unknown}
+use Rattle.judge.proofs.Judge.{stops, declared-none}
+
+-- ---- no map of a name
+
+equal-self : (a : List ℕ) → equal a a ≡ true
+equal-self [] = refl
+equal-self (x ∷ a) = rw (eq-eqb x x refl) (equal-self a)
+
+equal-same : (a b : List ℕ) → equal a b ≡ true → a ≡ b
+equal-same [] [] e = refl
+equal-same [] (y ∷ b) e = cc
+equal-same (x ∷ a) [] e = cc
+equal-same (x ∷ a) (y ∷ b) e =
+    let (p, q) = and-true-both (eqb x y) (equal a b) e in
+    let h = eqb-true x y p in
+    let t = equal-same a b q in
+    cc
+
+-- the test for equal names is false exactly where the names differ
+pub equal-differ : (a b : List ℕ) → equal a b ≡ false → a ≡ b → ⊥
+equal-differ a b e q = let s = equal-self b in let t : _≡_ {A = ℕ} 0 1 = cc in omega arith
+
+pub differ-equal : (a b : List ℕ) → (a ≡ b → ⊥) → equal a b ≡ false
+differ-equal a b h = go (equal a b) refl
+  where
+    go : (t : Bool) → equal a b ≡ t → t ≡ false
+    go true e = absurd (h (equal-same a b e))
+    go false e = refl
+
+-- the lookup finds nothing exactly where no map has the name
+from-none : (i : ℕ) (name : List ℕ) (ms : List Map) → lastFrom i name ms ≡ none → Unnamed name ms
+from-none i name [] e = tt
+from-none i name (m ∷ ms) e = go (lastFrom (suc i) name ms) refl (equal name (m .name)) refl (from-none (suc i) name ms)
+  where
+    go : (o : Option ℕ) → lastFrom (suc i) name ms ≡ o → (t : Bool) → equal name (m .name) ≡ t → (lastFrom (suc i) name ms ≡ none → Unnamed name ms)
+        → Unnamed name (m ∷ ms)
+    go (some k) p t q h =
+        let x : _≡_ {A = Option ℕ} (some k) none = rw (p, lastFrom) at e in
+        let z : _≡_ {A = ℕ} 0 1 = cc in
+        absurd (omega arith)
+    go none p true q h =
+        let x : _≡_ {A = Option ℕ} (some i) none = rw q at (rw (p, lastFrom) at e) in
+        let z : _≡_ {A = ℕ} 0 1 = cc in
+        absurd (omega arith)
+    go none p false q h = (q, h p)
+
+none-from : (i : ℕ) (name : List ℕ) (ms : List Map) → Unnamed name ms → lastFrom i name ms ≡ none
+none-from i name [] h = refl
+none-from i name (m ∷ ms) h = rw (none-from (suc i) name ms (h .1), lastFrom) (rw (h .0))
+
+pub none-unnamed : (name : List ℕ) (ms : List Map) → lastMap name ms ≡ none → Unnamed name ms
+none-unnamed name ms e = from-none 0 name ms e
+
+pub unnamed-none : (name : List ℕ) (ms : List Map) → Unnamed name ms → lastMap name ms ≡ none
+unnamed-none name ms h = none-from 0 name ms h
+
+-- ---- a frame is refused 7 for one reason
+
+-- where the first reason has another number, it does not hold, and the others decide, which give `o`
+past : (n m : ℕ) (b : Bool) (o : Option ℕ) → (m ≡ n → ⊥) → cond b (some m) o ≡ some n → (b ≡ false) × (o ≡ some n)
+past n m true o d e = absurd (d (cc))
+past n m false o d e = (refl, e)
+
+-- a number that no reason has is not given
+never : (n : ℕ) (rs : List Reason) → All (λ (r : Reason). r .number ≡ n → ⊥) rs → first rs ≡ some n → ⊥
+never n [] d e = let z : _≡_ {A = ℕ} 0 1 = cc in omega arith
+never n (r ∷ rs) d e = never n rs (d .1) (past n (r .number) (r .holds) (first rs) (d .0) e .1)
+
+-- the last reason, which has the number
+last-holds : (n : ℕ) (b : Bool) → first (reason n b ∷ []) ≡ some n → b ≡ true
+last-holds n true e = refl
+last-holds n false e = cc
+
+missing : (name : List ℕ) (ms : List Map) → declares ms name ≡ false → lastMap name ms ≡ none
+missing name ms e = go (lastMap name ms) refl
+  where
+    go : (o : Option ℕ) → lastMap name ms ≡ o → o ≡ none
+    go none q = refl
+    go (some k) q = let x : _≡_ {A = Bool} true false = rw (q, declares) at e in cc
+
+module _ (s : Stage) (line : Line) (bytes : List ℕ) (hex : frameBytes line ≡ some bytes) where
+  frame-asks : (f : Frame) → frameOf bytes ≡ some f → first (reasons s f) ≡ some 7 → Asks s line
+  frame-asks (licence t) e q = absurd (never 7 (reasons s (licence t)) (λ z. omega arith, (λ z. omega arith, (λ z. omega arith, tt))) q)
+  frame-asks (mapDecl kind key val entries name) e q =
+      absurd (never 7 (reasons s (mapDecl kind key val entries name)) (λ z. omega arith, (λ z. omega arith, (λ z. omega arith, tt))) q)
+  frame-asks (program section symbol) e q = absurd (never 7 (reasons s (program section symbol)) (λ z. omega arith, (λ z. omega arith, tt)) q)
+  frame-asks (code c) e q = absurd (never 7 (reasons s (code c)) (λ z. omega arith, tt) q)
+  frame-asks (relocation offset name) e q =
+      let (a, q₁) = past 7 4 _ _ (λ z. omega arith) q in
+      let (b, q₂) = past 7 5 _ _ (λ z. omega arith) q₁ in
+      let (c, q₃) = past 7 6 _ _ (λ z. omega arith) q₂ in
+      let (full, tooLong) = or-false-both (leb 256 (s .relocations)) (long name) c in
+      let none-open = eqb-false (length (s .job .programs)) 0 a in
+      record {
+        bytes = bytes;
+        hex = hex;
+        offset = offset;
+        name = name;
+        frame = e;
+        placed = omega arith;
+        good = not-false (isText name) b;
+        room = leb-false 256 (s .relocations) full;
+        short = ltb-false 64 (length name) tooLong;
+        undeclared = missing name (s .job .maps) (not-true (declares (s .job .maps) name) (last-holds 7 _ q₃));
+      }
+
+-- ---- a line is refused 7 exactly where it asks for an undeclared map
+
+bytes-ask : (s : Stage) (line : Line) (bytes : List ℕ) → frameBytes line ≡ some bytes → takeBytes s bytes ≡ stopped 7 → Asks s line
+bytes-ask s line bytes hex e = go (frameOf bytes) refl
+  where
+    by-frame : (f : Frame) → frameOf bytes ≡ some f → (o : Option ℕ) → first (reasons s f) ≡ o → Asks s line
+    by-frame f p none q =
+        let x : _≡_ {A = Step} (went (advance f s)) (stopped 7) = rw (q, takeFrame) at (rw (p, takeBytes) at e) in
+        let z : _≡_ {A = ℕ} 0 1 = cc in
+        absurd (omega arith)
+    by-frame f p (some n) q =
+        let x : _≡_ {A = Step} (stopped n) (stopped 7) = rw (q, takeFrame) at (rw (p, takeBytes) at e) in
+        frame-asks s line bytes hex f p (cc)
+
+    go : (o : Option Frame) → frameOf bytes ≡ o → Asks s line
+    go none p =
+        let x : _≡_ {A = Step} (stopped 3) (stopped 7) = rw (p, takeBytes) at e in
+        let z : _≡_ {A = ℕ} 3 7 = cc in
+        absurd (omega arith)
+    go (some f) p = by-frame f p (first (reasons s f)) refl
+
+pub line-asks : (s : Stage) (line : Line) → takeLine s line ≡ stopped 7 → Asks s line
+line-asks s line e = go (frameBytes line) refl
+  where
+    go : (o : Option (List ℕ)) → frameBytes line ≡ o → Asks s line
+    go none p =
+        let x : _≡_ {A = Step} (stopped 2) (stopped 7) = rw (p, takeLine) at e in
+        let z : _≡_ {A = ℕ} 2 7 = cc in
+        absurd (omega arith)
+    go (some bytes) p = bytes-ask s line bytes p (rw (p, takeLine) at e)
+
+pub asks-line : (s : Stage) (line : Line) → Asks s line → takeLine s line ≡ stopped 7
+asks-line s line a = rw (a .hex, takeLine) (stops s (relocation (a .offset) (a .name)) (a .bytes) 7 (a .frame) seven)
+  where
+    seven : first (reasons s (relocation (a .offset) (a .name))) ≡ some 7
+    seven =
+        simp (
+          ne-eqb (length (s .job .programs)) 0 (λ z. omega (arith, a .placed)),
+          a .good,
+          lt-leb 256 (s .relocations) (a .room),
+          le-ltb 64 (length (a .name)) (a .short),
+        )
+        (declared-none s (a .offset) (a .name) (a .undeclared))
+
+-- ---- the first faulty line, whatever it is refused for
+
+abbrev Counted : Stage → Step → Type 0
+Counted s (went t) = t .lines ≡ suc (s .lines)
+Counted s (stopped n) = Unit {0}
+
+-- a line that is taken counts as one
+line-counted : (s : Stage) (line : Line) → Counted s (takeLine s line)
+line-counted s line = by-line (frameBytes line)
+  where
+    by-reasons : (f : Frame) (o : Option ℕ) → Counted s (elim o [ some n ↦ stopped n | none ↦ went (advance f s) ])
+    by-reasons f none = refl
+    by-reasons f (some n) = tt
+
+    by-frame : (o : Option Frame) → Counted s (elim o [ none ↦ stopped 3 | some f ↦ takeFrame s f ])
+    by-frame none = tt
+    by-frame (some f) = by-reasons f (first (reasons s f))
+
+    by-line : (o : Option (List ℕ)) → Counted s (elim o [ none ↦ stopped 2 | some bytes ↦ takeBytes s bytes ])
+    by-line none = tt
+    by-line (some bytes) = by-frame (frameOf bytes)
+
+-- the lines `ls` behind stage `s` are taken up to one, which has the number `l` and is refused `n`
+record Stops (s : Stage) (ls : List Line) (n l : ℕ) : Type 0 where
+  before : List Line
+  line : Line
+  behind : List Line
+  split : ls ≡ before ++ (line ∷ behind)
+  number : l ≡ suc (s .lines + length before)
+  stage : Stage
+  taken : stageAfter s before ≡ some stage
+  stop : takeLine stage line ≡ stopped n
+
+lines-stop : (s : Stage) (ls : List Line) (n l : ℕ) → takeLines s ls ≡ faulty n l → Stops s ls n l
+lines-stop s [] n l e = let z : _≡_ {A = ℕ} 0 1 = cc in absurd (omega arith)
+lines-stop s (line ∷ ls) n l e = go (takeLine s line) refl (line-counted s line) (λ t. lines-stop t ls n l)
+  where
+    go : (x : Step) → takeLine s line ≡ x → Counted s x → ((t : Stage) → takeLines t ls ≡ faulty n l → Stops t ls n l) → Stops s (line ∷ ls) n l
+    go (went t) p c h =
+        let r = h t (rw (p, takeLines) at e) in
+        record {
+          before = line ∷ r .before;
+          line = r .line;
+          behind = r .behind;
+          split = ap (λ (ls′ : List Line). line ∷ ls′) (r .split);
+          number = omega (arith, r .number);
+          stage = r .stage;
+          taken = rw (p, stageAfter) (r .taken);
+          stop = r .stop;
+        }
+    go (stopped m) p c h =
+        let x : _≡_ {A = Checked} (faulty m (suc (s .lines))) (faulty n l) = rw (p, takeLines) at e in
+        record {
+          before = [];
+          line = line;
+          behind = ls;
+          split = refl;
+          number = let q : suc (s .lines) ≡ l = cc in omega arith;
+          stage = s;
+          taken = refl;
+          stop = cc;
+        }
+
+stop-lines : (s : Stage) (before : List Line) (line : Line) (behind : List Line) (t : Stage) (n : ℕ) → stageAfter s before ≡ some t
+    → takeLine t line ≡ stopped n → takeLines s (before ++ (line ∷ behind)) ≡ faulty n (suc (s .lines + length before))
+stop-lines s [] line behind t n e q =
+    let h : s ≡ t = cc in
+    let q′ : takeLine s line ≡ stopped n = rw (sym h) at q in
+    let l : suc (s .lines) ≡ suc (s .lines + 0) = omega arith in
+    rw (q′, takeLines) (ap (faulty n) l)
+stop-lines s (b ∷ before) line behind t n e q =
+    go (takeLine s b) refl (line-counted s b) (λ s′ h. stop-lines s′ before line behind t n h q)
+  where
+    go : (x : Step) → takeLine s b ≡ x → Counted s x
+        → ((s′ : Stage) → stageAfter s′ before ≡ some t → takeLines s′ (before ++ (line ∷ behind)) ≡ faulty n (suc (s′ .lines + length before)))
+        → takeLines s (b ∷ before ++ (line ∷ behind)) ≡ faulty n (suc (s .lines + suc (length before)))
+    go (went s′) p c h =
+        let l : suc (s′ .lines + length before) ≡ suc (s .lines + suc (length before)) = omega arith in
+        rw (p, takeLines) (h s′ (rw (p, stageAfter) at e) ∙ ap (faulty n) l)
+    go (stopped m) p c h =
+        let x : _≡_ {A = Option Stage} none (some t) = rw (p, stageAfter) at e in
+        let z : _≡_ {A = ℕ} 0 1 = cc in
+        absurd (omega arith)
+
+-- ---- the job
+
+pub refused-unknown : (text : List ℕ) (l : ℕ) → checked text ≡ faulty 7 l → Unknown text l
+refused-unknown text l e = go (ltb 65535 (length text)) refl
+  where
+    go : (b : Bool) → ltb 65535 (length text) ≡ b → Unknown text l
+    go true q =
+        let x : _≡_ {A = Checked} (faulty 1 0) (faulty 7 l) = rw q at e in
+        let z : _≡_ {A = ℕ} 1 7 = cc in
+        absurd (omega arith)
+    go false q =
+        let r = lines-stop empty (lines text) 7 l (rw q at e) in
+        record {
+          few = ltb-false 65535 (length text) q;
+          before = r .before;
+          line = r .line;
+          behind = r .behind;
+          split = r .split;
+          number = omega (arith, r .number);
+          stage = r .stage;
+          taken = r .taken;
+          asks = line-asks (r .stage) (r .line) (r .stop);
+        }
+
+pub unknown-refused : (text : List ℕ) (l : ℕ) → Unknown text l → checked text ≡ faulty 7 l
+unknown-refused text l u =
+    let n : suc (0 + length (u .before)) ≡ l = omega (arith, u .number) in
+    rw (le-ltb 65535 (length text) (u .few), u .split)
+    (stop-lines empty (u .before) (u .line) (u .behind) (u .stage) 7 (u .taken) (asks-line (u .stage) (u .line) (u .asks)) ∙ ap (faulty 7) n)
+
+-- A job of two lines, a program `x` and a relocation against `m`, is refused so at its second line.
+abbrev two-lines : List ℕ
+two-lines = ascii "03017879" ++ (10 ∷ ascii "0500000000000000006d") ++ (10 ∷ [])
+
+example : Unknown two-lines 2
+example = refused-unknown two-lines 2 refl
