@@ -5,11 +5,12 @@ use Prim.Native.Nat.{ℕ, _+_, _-_, _*_, _/_, _%_, _^_, _≤_, _<_}
 use native.Mathlib.Nat.{mod-eq-of-lt, div-lt-iff-lt-mul}
 use lib.Pow.{pow-add, pow-pos}
 use native.Mathlib.Omega.{arith}
-use lib.Dec.{lit≤}
-use lib.Bits.{bitAnd, and-high}
+use lib.Dec.{lit≤, lit<}
+use lib.Bits.{bitAnd, bitOr, and-high, or-shifted}
 use lib.ListN.{length, length-append}
 use Rattle.elf.specs.Strings.{addString}
-use Rattle.elf.specs.Elf.{alignTo}
+use Rattle.elf.specs.Elf.{alignTo, nullHeader, nullEntry}
+use Rattle.elf.specs.Entries.{nullSection, headerOf, nullSymbol, entryOf}
 use Rattle.elf.specs.Added.{Alignment, one, four, eight, added}
 
 pub at-most-eight : {a : ℕ} → Alignment a → a ≤ 8
@@ -34,9 +35,22 @@ align-one a n one h = omega arith
 align-one a n four h = omega arith
 align-one a n eight h = omega arith
 
+-- a relocation's info: a shift and a mask put the symbol above the type
+pub rel-info : (s : ℕ) → s < 2 ^ 32 → bitOr (s * 4294967296 % 18446744073709551616) 1 ≡ s * 2 ^ 32 + 1
+rel-info s h =
+    let fits : s * 4294967296 < 18446744073709551616 = omega arith in
+    rw (mod-eq-of-lt fits) (or-shifted s 32 1 (lit< tt))
+
 -- the place and the length that `add_string` answers are those of the table
 pub added-place : (t s : List ℕ) → addString t s .place ≡ added (length t) (length s) .place
 added-place t s = refl
 
 pub added-len : (t s : List ℕ) → length (addString t s .table) ≡ added (length t) (length s) .len
 added-len t s = rw (length-append t (s ++ (0 ∷ [])), length-append s (0 ∷ [])) (omega arith)
+
+-- section 0 and symbol 0 are those of the definitions
+pub null-section : headerOf nullSection ≡ nullHeader
+null-section = refl
+
+pub null-symbol : entryOf nullSymbol ≡ nullEntry
+null-symbol = refl

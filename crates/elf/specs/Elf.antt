@@ -117,9 +117,28 @@ pub record Symbol : Type 0 where
 abbrev pub symbolInfo : ℕ → ℕ → ℕ
 symbolInfo bind kind = bind * 16 + kind
 
--- a symbol's entry, whose name is at `p` of the symbols' string table
+-- a symbol's entry by its numbers
+pub record Entry : Type 0 where
+  pub name : ℕ
+  pub info : ℕ
+  pub section : ℕ
+  pub at : ℕ
+  pub size : ℕ
+
+abbrev pub entryBytes : Entry → List ℕ
+entryBytes e =
+    cat (le 4 (e .name) ∷ le 1 (e .info) ∷ le 1 0 ∷ le 2 (e .section) ∷ le 8 (e .at) ∷ le 8 (e .size) ∷ [])
+
+-- symbol 0, as the Rust writes it: its empty name is appended to the table too
+abbrev pub nullEntry : Entry
+nullEntry = record { name = 1; info = 0; section = 0; at = 0; size = 0 }
+
+-- the entry of a symbol whose name is at `p` of the symbols' string table
+abbrev pub entryFor : ℕ → Symbol → Entry
+entryFor p s = record { name = p; info = s .info; section = s .section; at = s .at; size = s .size }
+
 abbrev pub symbolBytes : ℕ → Symbol → List ℕ
-symbolBytes p s = cat (le 4 p ∷ le 1 (s .info) ∷ le 1 0 ∷ le 2 (s .section) ∷ le 8 (s .at) ∷ le 8 (s .size) ∷ [])
+symbolBytes p s = entryBytes (entryFor p s)
 
 abbrev pub symbolsBytes : List ℕ → List Symbol → List ℕ
 symbolsBytes [] [] = []

@@ -1,3 +1,4 @@
 pub mod Strings
 pub mod Elf
 pub mod Added
+pub mod Entries
