@@ -1,4 +1,5 @@
 pub mod Names
+pub mod ByWrittenName
 pub mod Flaws
 pub mod Pieces
 pub mod Judge

@@ -11,7 +11,7 @@ use lib.ListN.{length, take, drop, getD, set, length-append, length-take, length
 use lib.Seq.{take-suc-set, drop-cons, take-all, append-snoc, drop-at, take-at, drop-drop, length-take-le}
 use lib.Dec.{T, leb, eqb, leb→le, lit<}
 use mathlib.Core.Bool.{Bool, true, false, _&&_}
-use borrow.Author.Tests.{leb-true, leb-false}
+use borrow.Author.Tests.{leb-true, leb-false, eq-eqb, ne-eqb}
 use borrow.Rule.Slice.PartMut.{putMid, mid-len}
 use Rattle.octets.specs.Octets.{le, equal}
 use Rattle.octets.proofs.Numbers.{le-length}
@@ -152,6 +152,13 @@ part-on out at e t more h q n w r =
 pub equal-on : (a b : List ℕ) (i : ℕ) → i < length a → i < length b
     → equal (drop i a) (drop i b) ≡ (eqb (getD a i 0) (getD b i 0) && equal (drop (i + 1) a) (drop (i + 1) b))
 equal-on a b i h g = rw (read-on a i h, read-on b i g)
+
+pub equal-differ : (a b : List ℕ) (i : ℕ) → i < length a → i < length b → (getD a i 0 ≡ getD b i 0 → ⊥) → equal (drop i a) (drop i b) ≡ false
+equal-differ a b i h g d = equal-on a b i h g ∙ simp (ne-eqb (getD a i 0) (getD b i 0) d)
+
+pub equal-next : (a b : List ℕ) (i : ℕ) → i < length a → i < length b → getD a i 0 ≡ getD b i 0
+    → equal (drop i a) (drop i b) ≡ equal (drop (i + 1) a) (drop (i + 1) b)
+equal-next a b i h g e = equal-on a b i h g ∙ simp (eq-eqb (getD a i 0) (getD b i 0) e)
 
 pub equal-short : (a b : List ℕ) (i : ℕ) → i < length a → length b ≤ i → equal (drop i a) (drop i b) ≡ false
 equal-short a b i h g = rw (read-on a i h, read-done b i g)

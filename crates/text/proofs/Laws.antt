@@ -175,3 +175,10 @@ ended-ok s i w h k =
 
 pub ok-start : (s : List ℕ) → isText s ≡ true → ok (points s) ≡ true
 ok-start s e = e
+
+-- whether a zero byte stands from here on, by the byte that stands here
+pub zero-here : (s : List ℕ) (i : ℕ) → i < length s → getD s i 0 ≡ 0 → text.hasZero (drop i s) ≡ true
+zero-here s i h e = ap text.hasZero (read-on s i h) ∙ simp (eq-eqb (getD s i 0) 0 e)
+
+pub zero-later : (s : List ℕ) (i : ℕ) → i < length s → (getD s i 0 ≡ 0 → ⊥) → text.hasZero (drop i s) ≡ text.hasZero (drop (i + 1) s)
+zero-later s i h e = ap text.hasZero (read-on s i h) ∙ simp (ne-eqb (getD s i 0) 0 e)

@@ -4,9 +4,8 @@ use Prim.Native.Nat.{_≤_, _-_}
 use native.Mathlib.Omega.{arith}
 use lib.ListN.{length, drop}
 use borrow.Author.Needs.{needs}
-use borrow.Author.Tests.{eq-eqb, ne-eqb}
 use Rattle.octets.specs.Octets.{equal}
-use Rattle.octets.proofs.Laws.{equal-on, equal-short, equal-end}
+use Rattle.octets.proofs.Laws.{equal-differ, equal-next, equal-short, equal-end}
 use Rattle.octets.proofs.same.Statement.{statement}
 use Rattle.octets.proofs.same.Tie as tie
 
@@ -26,13 +25,13 @@ returns-2 : tie.Need-returns-2 Inv-loop μ-loop
 returns-2 c =
     let l = c .before .before .before .before .before .loop in
     let a = c .before .before .before .before .before .before .args in
-    sym (l .inv .1 ∙ equal-on (a .a .now) (a .b .now) (l .i) (omega arith) (omega arith) ∙ simp (ne-eqb _ _ (c .if2 .taken)))
+    sym (l .inv .1 ∙ equal-differ (a .a .now) (a .b .now) (l .i) (omega arith) (omega arith) (c .if2 .taken))
 
 loop-again : tie.Need-loop-again Inv-loop μ-loop
 loop-again c =
     let l = c .before .before .before .before .before .loop in
     let a = c .before .before .before .before .before .before .args in
-    (omega arith, l .inv .1 ∙ equal-on (a .a .now) (a .b .now) (l .i) (omega arith) (omega arith) ∙ simp (eq-eqb _ _ (c .if2 .left)))
+    (omega arith, l .inv .1 ∙ equal-next (a .a .now) (a .b .now) (l .i) (omega arith) (omega arith) (c .if2 .left))
 
 returns-3 : tie.Need-returns-3 Inv-loop μ-loop
 returns-3 c =

@@ -4,11 +4,11 @@ use Prim.Native.Nat.{_≤_, _-_}
 use native.Mathlib.Omega.{arith}
 use lib.ListN.{length, drop}
 use borrow.Author.Needs.{needs}
-use borrow.Author.Tests.{eq-eqb, ne-eqb}
-use Rattle.octets.proofs.Laws.{read-on, read-done}
+use Rattle.octets.proofs.Laws.{read-done}
 use Rattle.lines.specs.Hex.{bytesIn}
 use Rattle.lines.proofs.Bytes.{bytes-length}
 use Rattle.text.specs.Utf8.{hasZero}
+use Rattle.text.proofs.Laws.{zero-here, zero-later}
 use Rattle.text.proofs.has_zero.Statement.{statement}
 use Rattle.text.proofs.has_zero.Tie as tie
 
@@ -28,7 +28,7 @@ returns : tie.Need-returns Inv-loop μ-loop
 returns c =
     let q = c .before in
     let l = q .before .before .loop in
-    sym (l .inv .2 ∙ ap hasZero (read-on (bytesIn (q .before .before .before .before .args .s .now)) (l .i) (omega arith)) ∙ simp (eq-eqb _ _ (sym (q .byte-at .ensures) ∙ c .if1 .taken)))
+    sym (l .inv .2 ∙ zero-here (bytesIn (q .before .before .before .before .args .s .now)) (l .i) (omega arith) (omega (arith, q .byte-at .ensures)))
 
 loop-again : tie.Need-loop-again Inv-loop μ-loop
 loop-again c =
@@ -36,7 +36,7 @@ loop-again c =
     let l = q .before .before .loop in (
       omega arith,
       omega arith,
-      l .inv .2 ∙ ap hasZero (read-on (bytesIn (q .before .before .before .before .args .s .now)) (l .i) (omega arith)) ∙ simp (ne-eqb _ _ (λ e. c .if1 .left (q .byte-at .ensures ∙ e))),
+      l .inv .2 ∙ zero-later (bytesIn (q .before .before .before .before .args .s .now)) (l .i) (omega arith) (omega (arith, q .byte-at .ensures)),
     )
 
 returns-2 : tie.Need-returns-2 Inv-loop μ-loop
