@@ -1,5 +1,6 @@
 pub mod Laws
 pub mod Strings
+pub mod Joined
 pub mod Rows
 pub mod Places
 pub mod Single

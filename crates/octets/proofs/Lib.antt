@@ -1,5 +1,6 @@
 pub mod Numbers
 pub mod Laws
+pub mod Filling
 pub mod Reading
 pub mod Lists
 pub mod Bytes
