@@ -1,0 +1,4 @@
+pub mod Names
+pub mod There
+pub mod Going
+pub mod Single

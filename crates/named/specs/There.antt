@@ -1,0 +1,14 @@
+-- What is known of the maps' tables of an accepted job: the tables are whole, and each map's name stands in the text.
+use mathlib.Core.Path.{_≡_}
+use mathlib.Core.List.{List}
+use Prim.Native.Nat.{ℕ, _≤_, _<_}
+use lib.ListN.{length, getD}
+use Rattle.ast.specs.declared.MapDecl.{MapDecl}
+use Rattle.object.specs.Kept.{Named}
+
+pub record MapsThere (text : List ℕ) (ds : List MapDecl) (ats lens : List ℕ) (count : ℕ) : Type 0 where
+  pub few : count ≤ 64
+  pub decls-long : length ds ≡ 64
+  pub ats-long : length ats ≡ 64
+  pub lens-long : length lens ≡ 64
+  pub named : (i : ℕ) → i < count → Named text (record { at = getD ats i 0; len = getD lens i 0 })

@@ -1,0 +1,44 @@
+-- `symbols::strtab_size` meets its contract. Assumes nothing.
+use mathlib.Core.Path.{_≡_, refl, sym, _∙_, ap}
+use mathlib.Core.List.{List, [], _∷_, _++_}
+use Prim.Native.Nat.{ℕ, _+_, _-_, _*_, _≤_, _<_}
+use native.Mathlib.Omega.{arith}
+use lib.ListN.{length, take, drop, getD}
+use borrow.Author.Needs.{needs}
+use Rattle.symbols.proofs.Whole.{strtab-long, names-there, programs-there}
+use Rattle.symbols.proofs.strtab_size.Statement.{statement}
+use Rattle.symbols.proofs.strtab_size.Tie as tie
+
+map-names-size-requires : tie.Need-map-names-size-requires
+map-names-size-requires c κs =
+    let p = c .before .before .before .before .before .before .before in
+    names-there (p .args .text .now) (p .args .t2) (p .pre)
+
+program-names-size-requires : tie.Need-program-names-size-requires
+program-names-size-requires c κs =
+    let p = c .before .before .before .before .before .before .before .before in
+    programs-there (p .args .text .now) (p .args .t2) (p .pre)
+
+add-result : tie.Need-add-result
+add-result c =
+    let m = c .before in
+    let p = m .before .before .before .before .before .before .before .before in
+    omega (arith, m .map-names-size .ensures .1, p .pre .sound)
+
+add-result-2 : tie.Need-add-result-2
+add-result-2 c =
+    let m = c .before in
+    let p = m .before .before .before .before .before .before .before .before in
+    omega (arith, m .map-names-size .ensures .1, c .program-names-size .ensures .1, p .pre .sound)
+
+returns : tie.Need-returns
+returns c =
+    let m = c .before in
+    let p = m .before .before .before .before .before .before .before .before in
+    let l = strtab-long (p .args .text .now) (p .args .t2) (p .pre) in (
+      omega (arith, l, m .map-names-size .ensures .0, c .program-names-size .ensures .0),
+      omega (arith, m .map-names-size .ensures .1, c .program-names-size .ensures .1, p .pre .sound),
+    )
+
+pub strtab-size-spec : {M : Type 1} → statement M
+strtab-size-spec = tie.close (tie.spec map-names-size-requires program-names-size-requires add-result add-result-2 returns)
