@@ -1,0 +1,4 @@
+pub mod Slots
+pub mod Frames
+pub mod Body
+pub mod Single

@@ -1,0 +1,148 @@
+-- What callers need of the rows of slots: an accepted job's slots are resolved, and their entries are then those that the object's
+-- definition asks for. And the length of the licence.
+use mathlib.Core.Path.{_≡_, refl, _∙_, ap}
+use mathlib.Core.Bool.{true}
+use mathlib.Core.List.{List, [], _∷_, _++_}
+use Prim.Native.Nat.{ℕ, zero, suc, _+_, _-_, _*_, _≤_, _<_}
+use native.Mathlib.Numerals.{add-one}
+use native.Mathlib.Omega.{arith}
+use lib.ListN.{length, take, drop, getD, length-append, length-take, length-drop, drop-of-length-le}
+use lib.Seq.{length-take-le, getD-take, getD-drop, take-all, drop-cons}
+use Rattle.octets.specs.Octets.{value}
+use Rattle.lines.specs.Hex.{isHex, bytesIn}
+use Rattle.lines.proofs.Bytes.{bytes-length}
+use Rattle.elf.specs.Elf.{relBytes}
+use Rattle.ast.specs.Job.{Map}
+use Rattle.ast.specs.declared.Name.{Name}
+use Rattle.object.specs.declared.License.{License}
+use Rattle.object.specs.declared.License.the-variants.{Gpl, Text}
+use Rattle.object.specs.declared.Entry.{Entry}
+use Rattle.object.specs.declared.Entry.the-variants.{Empty, At}
+use Rattle.object.specs.declared.Slot.{Slot}
+use Rattle.object.specs.declared.Program.{Program}
+use Rattle.object.specs.declared.BpfObject.{BpfObject}
+use Rattle.object.specs.Object.{mapSymbol, relocationBytes}
+use Rattle.object.specs.Tables.{emptySlot}
+use Rattle.object.specs.Read.{bytesAt, nameIn, licenceIn, entryIn, relocationsIn, declaredMaps}
+use Rattle.object.specs.Kept.{Named, LicenceNamed, ResolvedEntry, Kept}
+use Rattle.contents.specs.Slots.{licenceLen, slotBytes, slotsBytes, PlacedSlot, AllPlaced, AllResolved}
+
+-- ---- the licence
+
+pub name-length : (text : List ℕ) (n : Name) → Named text n → length (nameIn text n) ≡ n .len
+name-length text n k =
+    let h : 2 * n .len ≤ length (drop (n .at) text) = rw length-drop (omega (arith, k .inside)) in
+    omega (arith, bytes-length (take (2 * n .len) (drop (n .at) text)) (k .hex), length-take-le (2 * n .len) (drop (n .at) text) h)
+
+pub licence-length : (text : List ℕ) (l : License) → LicenceNamed text l → length (licenceIn text l) ≡ licenceLen l
+licence-length text Gpl k = refl
+licence-length text (Text n) k = name-length text n k
+
+-- what is known of a licence that the text holds
+pub text-named : (text : List ℕ) (l : License) (n : Name) → l ≡ Text n → LicenceNamed text l → Named text n
+text-named text l n e k = rw e at k
+
+-- ---- resolved slots
+
+entry-resolved : (text : List ℕ) (ms : List Map) (e : Entry) → ResolvedEntry text ms e
+    → slotBytes text e ≡ relBytes (entryIn text e .offset) (mapSymbol ms (entryIn text e .map))
+entry-resolved text ms Empty r = absurd r
+entry-resolved text ms (At place len number) r = rw (r .last, mapSymbol)
+
+pub slots-resolved : (text : List ℕ) (ms : List Map) (ss : List Slot) → AllResolved text ms ss
+    → slotsBytes text ss ≡ relocationBytes ms (relocationsIn text ss)
+slots-resolved text ms [] r = refl
+slots-resolved text ms (s ∷ ss) r = rw (entry-resolved text ms (s .entry) (r .0), slots-resolved text ms ss (r .1))
+
+entry-placed : (text : List ℕ) (ms : List Map) (e : Entry) → ResolvedEntry text ms e → PlacedSlot text e
+entry-placed text ms Empty r = r
+entry-placed text ms (At place len number) r = (r .inside, r .hex)
+
+pub resolved-placed : (text : List ℕ) (ms : List Map) (ss : List Slot) → AllResolved text ms ss → AllPlaced text ss
+resolved-placed text ms [] r = tt
+resolved-placed text ms (s ∷ ss) r = (entry-placed text ms (s .entry) (r .0), resolved-placed text ms ss (r .1))
+
+-- ---- the slots of a program
+
+-- a part of a table whose slots are resolved one by one
+taken-resolved : (text : List ℕ) (ms : List Map) (l : List Slot) (k : ℕ) → k ≤ length l
+    → ((i : ℕ) → i < k → ResolvedEntry text ms (getD l i emptySlot .entry)) → AllResolved text ms (take k l)
+taken-resolved text ms l zero h f = tt
+taken-resolved text ms [] (suc k) h f = tt
+taken-resolved text ms (s ∷ l) (suc k) h f = (f 0 (omega arith), taken-resolved text ms l k (omega arith) (λ i g. f (suc i) (omega arith)))
+
+pub part-resolved : (text : List ℕ) (o : BpfObject) (p : Program) → Kept text o → p .first + p .relocs ≤ o .«reloc_count»
+    → AllResolved text (declaredMaps text o) (take (p .relocs) (drop (p .first) (o .slots)))
+part-resolved text o p k h =
+    taken-resolved text (declaredMaps text o) (drop (p .first) (o .slots)) (p .relocs) (rw length-drop (omega (arith, k .sound)))
+    (λ i g. rw (getD-drop (p .first) (o .slots) i emptySlot) (k .slots (p .first + i) (omega arith)))
+
+-- ---- one entry
+
+-- the offset of a slot is what the sixteen characters at its place give
+module _ (text : List ℕ) (place : ℕ) (inside : place + 16 ≤ length text) (hex : isHex (take 16 (drop place text)) ≡ true) where
+  sixteen : take (place + 16 - place) (drop place text) ≡ take 16 (drop place text)
+  sixteen = let k : place + 16 - place ≡ 16 = omega arith in rw k
+
+  pub offset-hex : isHex (take (place + 16 - place) (drop place text)) ≡ true
+  offset-hex = rw sixteen hex
+
+  pub offset-length : length (take (place + 16 - place) (drop place text)) ≡ 16
+  offset-length = rw sixteen (length-take-le 16 (drop place text) (rw length-drop (omega arith)))
+
+  pub offset-read : value (take 8 (drop 0 (bytesIn (take (place + 16 - place) (drop place text))))) ≡ value (bytesAt text place 8)
+  offset-read =
+      let e : length (bytesIn (take 16 (drop place text))) ≤ 8 = omega (arith, bytes-length (take 16 (drop place text)) hex, ap length sixteen, offset-length) in
+      rw sixteen (ap value (take-all 8 (bytesIn (take 16 (drop place text))) e))
+
+-- ---- a row of entries
+
+-- each slot that is placed takes sixteen bytes
+pub slots-length : (text : List ℕ) (ss : List Slot) → AllPlaced text ss → length (slotsBytes text ss) ≡ 16 * length ss
+slots-length text [] k = refl
+slots-length text (s ∷ ss) k =
+    omega (arith, length-append (slotBytes text (s .entry)) (slotsBytes text ss), entry-length text (s .entry) (k .0), slots-length text ss (k .1))
+  where
+    entry-length : (text : List ℕ) (e : Entry) → PlacedSlot text e → length (slotBytes text e) ≡ 16
+    entry-length text Empty k = absurd k
+    entry-length text (At place len map) k = refl
+
+-- what is known of a slot that is the next one of a row: it is `At place len map`, and `more` come behind it
+pub record Next (text : List ℕ) (place map : ℕ) (rest more : List Slot) : Type 0 where
+  pub inside : place + 16 ≤ length text
+  pub hex : isHex (take 16 (drop place text)) ≡ true
+  pub bytes : slotsBytes text rest ≡ relBytes (value (bytesAt text place 8)) (2 + map) ++ slotsBytes text more
+  pub placed : AllPlaced text more
+
+module _ (text : List ℕ) (slots : List Slot) (first count i : ℕ) (inside : first + count ≤ length slots) (few : i < count) where
+  -- the slot at `first + i` is the one behind the first `i` of the row
+  slot-next : drop i (take count (drop first slots)) ≡ getD slots (first + i) emptySlot ∷ drop (i + 1) (take count (drop first slots))
+  slot-next =
+      let row = take count (drop first slots) in
+      let l : length row ≡ count = length-take-le count (drop first slots) (rw length-drop (omega arith)) in
+      rw (add-one i) (drop-cons row i emptySlot (omega arith))
+      ∙ ap (λ (s : Slot). s ∷ drop (i + 1) row) (getD-take count (drop first slots) i emptySlot few ∙ getD-drop first slots i emptySlot)
+
+  pub next-slot : (place len map : ℕ) → getD slots (first + i) emptySlot .entry ≡ At place len map → AllPlaced text (drop i (take count (drop first slots)))
+      → Next text place map (drop i (take count (drop first slots))) (drop (i + 1) (take count (drop first slots)))
+  next-slot place len map e k =
+      let row = take count (drop first slots) in
+      let more = drop (i + 1) row in
+      let f : AllPlaced text (getD slots (first + i) emptySlot ∷ more) = rw slot-next at k in
+      let g : PlacedSlot text (At place len map) = rw e at (f .0) in
+      record {
+        inside = omega (arith, g .0);
+        hex = g .1;
+        bytes = ap (slotsBytes text) slot-next ∙ ap (λ (x : Entry). slotBytes text x ++ slotsBytes text more) e;
+        placed = f .1;
+      }
+
+  -- no slot of the row is empty
+  pub not-empty : getD slots (first + i) emptySlot .entry ≡ Empty → AllPlaced text (drop i (take count (drop first slots))) → ⊥
+  not-empty e k =
+      let f : AllPlaced text (getD slots (first + i) emptySlot ∷ drop (i + 1) (take count (drop first slots))) = rw slot-next at k in
+      rw e at (f .0)
+
+-- behind the last slot of a row there is no entry
+pub slots-done : (text : List ℕ) (l : List Slot) (count i : ℕ) → count ≤ i → slotsBytes text (drop i (take count l)) ≡ []
+slots-done text l count i h = ap (slotsBytes text) (drop-of-length-le (take count l) {i = i} (rw length-take (omega arith)))

@@ -1,0 +1,4 @@
+pub mod Table
+pub mod Programs
+pub mod Whole
+pub mod Single

@@ -1,0 +1,8 @@
+-- Single outcome: two outcomes that meet the promise of `measure` are equal.
+use mathlib.Core.Path.{_≡_, sym, _∙_}
+use Rattle.octets.proofs.Single.{OneResult}
+use Rattle.measure.proofs.measure.Kinds as measure-kinds
+use Rattle.measure.proofs.measure.Reads as measure
+
+measure-single : OneResult measure-kinds.ps measure-kinds.r measure.Post
+measure-single κs a z z′ e e′ p p′ = p .0 ∙ sym (p′ .0)
