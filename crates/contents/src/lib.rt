@@ -112,7 +112,6 @@ fn put_frame(out: &mut [u8], at: usize, line: &[u8]) -> usize
 
 // A program's code, frames 04 and 06 mixed in order, into a part of exactly its length.
 pub fn put_code(out: &mut [u8], text: &[u8], from: usize, lines: usize)
-    requires { ⌜ length (now text) ≤ 65535 ⌝ }
     requires { ⌜ length (body (now text) from lines) ≡ lines ⌝ }
     requires { ⌜ AllFrames (body (now text) from lines) ⌝ }
     requires { ⌜ length (now out) ≡ length (codeOf (body (now text) from lines)) ⌝ }

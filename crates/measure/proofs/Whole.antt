@@ -29,11 +29,12 @@ use Rattle.object.specs.Object.{plain, licenseSection, mapSections, relSections
 use Rattle.object.proofs.Counts.{symtab-number, count-symbols}
 use Rattle.named.proofs.Names.{name-length}
 use Rattle.symbols.specs.Rows.{behind, firstOf, strtabOf, symtabOf}
+use Rattle.headers.specs.Names.{sectionNames, shstrtabOf}
 use Rattle.symbols.proofs.Whole.{first-of, behind-program, programs-there, count-declared, symtab-long}
 use Rattle.measure.specs.declared.Measuring.{Measuring}
 use Rattle.measure.specs.declared.Measured.{Measured}
 use Rattle.measure.specs.declared.Sizes.{Sizes}
-use Rattle.measure.specs.Measured.{withSection, plainAt, begun, plus, licensed, mapped, front, symtabAt, withStrings, tabled, behindAll, sectionNames, shstrtabOf, tableSections, sectionsOf, rowsFrom, rowsOf, measuredOf, sizes, Rows, Low, Same, AllSame, SizesOf, Small}
+use Rattle.measure.specs.Measured.{withSection, plainAt, begun, plus, licensed, mapped, front, symtabAt, withStrings, tabled, behindAll, tableSections, sectionsOf, rowsFrom, rowsOf, measuredOf, sizes, Rows, Low, Same, AllSame, SizesOf, Small}
 use Rattle.measure.proofs.Table.{rows-on, low-licensed, low-maps, low-mapped, low-symtab, low-strings}
 
 -- ---- before the programs

@@ -17,6 +17,7 @@ use Rattle.btf.specs.Maps.{mapTypes, btfTypes}
 use Rattle.object.specs.declared.Program.{Program}
 use Rattle.object.specs.Object.{declaredSections, symbols, symbolSection, tableSection, object}
 use Rattle.symbols.specs.Rows.{behind, strtabOf}
+use Rattle.headers.specs.Names.{shstrtabOf}
 use Rattle.measure.specs.declared.Measuring.{Measuring}
 use Rattle.measure.specs.declared.Measured.{Measured}
 use Rattle.measure.specs.declared.Sizes.{Sizes}
@@ -84,13 +85,6 @@ sectionOf h =
       align = h .align;
       entsize = h .entry;
     }
-
--- the names of the sections, and the table of them
-abbrev pub sectionNames : Job → List (List ℕ)
-sectionNames j = map (λ s. s .name) (declaredSections j) ++ (ascii ".symtab" ∷ ascii ".strtab" ∷ ascii ".shstrtab" ∷ [])
-
-abbrev pub shstrtabOf : Job → List ℕ
-shstrtabOf j = addStrings emptyTable (sectionNames j) .table
 
 -- the three tables that stand behind the sections that the job asks for
 abbrev pub tableSections : Job → List Section

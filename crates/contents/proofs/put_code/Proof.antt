@@ -71,12 +71,12 @@ filling d = fill-as (added d ++ later d) (here d .code) (d .before .before .befo
 loop-holds : tie.Need-loop-holds Inv-loop μ-loop
 loop-holds c =
     let p = c .before .before in
-    (omega arith, refl, p .pre .1 .1 .0, fill-start _ (p .args .out .now) (p .pre .1 .1 .1))
+    (omega arith, refl, p .pre .1 .0, fill-start _ (p .args .out .now) (p .pre .1 .1))
 
 same-length : tie.Need-same-length Inv-loop μ-loop
 same-length c =
     let q = c .before .before .before in
-    omega (arith, q .before .loop .inv .3 .same, q .before .before .before .before .pre .1 .1 .1)
+    omega (arith, q .before .loop .inv .3 .same, q .before .before .before .before .pre .1 .1)
 
 returns : tie.Need-returns Inv-loop μ-loop
 returns c =
@@ -85,7 +85,7 @@ returns c =
     let l = q .before .loop in
     let p = q .before .before .before .before in
     absurd
-    (not-cut (p .args .text .now) (p .args .from) (p .args .lines) (l .i) (l .start) (q .loop-test .taken) (l .inv .1) (l .inv .2) (p .pre .1 .0)
+    (not-cut (p .args .text .now) (p .args .from) (p .args .lines) (l .i) (l .start) (q .loop-test .taken) (l .inv .1) (l .inv .2) (p .pre .0)
     (sym (e .line-end .ensures) ∙ c .enum-told .given .1))
 
 sub-put-frame : tie.Need-sub-put-frame Inv-loop μ-loop
@@ -113,13 +113,13 @@ loop-again c =
     (omega arith, t .here, t .frames, fill-on (added d) (later d) (f .put-frame .last .0) (f .put-frame .result) (filling d) (f .put-frame .ensures .0) (f .put-frame .ensures .1))
 
 same-length-2 : tie.Need-same-length-2 Inv-loop μ-loop
-same-length-2 c = omega (arith, c .before .loop .inv .3 .same, c .before .before .before .before .pre .1 .1 .1)
+same-length-2 c = omega (arith, c .before .loop .inv .3 .same, c .before .before .before .before .pre .1 .1)
 
 returns-2 : tie.Need-returns-2 Inv-loop μ-loop
 returns-2 c =
     let l = c .before .loop in
     let p = c .before .before .before .before in
-    fill-done (fill-as [] (code-done (p .args .text .now) (p .args .from) (p .args .lines) (l .i) (p .pre .1 .0) (omega arith)) (l .inv .3))
+    fill-done (fill-as [] (code-done (p .args .text .now) (p .args .from) (p .args .lines) (l .i) (p .pre .0) (omega arith)) (l .inv .3))
 
 pub put-code-spec : {M : Type 1} → statement M
 put-code-spec =

@@ -1,0 +1,4 @@
+pub mod Names
+pub mod Whole
+pub mod Headers
+pub mod Single
