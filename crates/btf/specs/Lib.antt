@@ -1,2 +1,3 @@
 pub mod Btf
 pub mod Maps
+pub mod Builder

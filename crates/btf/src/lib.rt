@@ -1,9 +1,13 @@
 // BTF, which says to a loader what the maps are: the numbers of elf.rs of the original.
 ghost use mathlib.Core.Path.{_≡_};
-ghost use Prim.Native.Nat.{_≤_, _<_, _^_};
-ghost use Rattle.btf.specs.Btf.{info};
+ghost use mathlib.Core.List.{[], _∷_};
+ghost use Prim.Native.Nat.{_+_, _*_, _≤_, _<_, _^_};
+ghost use lib.ListN.{length};
+ghost use Rattle.octets.specs.Over.{over};
+ghost use Rattle.btf.specs.Btf.{info, typeBytes, int, ptr, array, var};
 ghost use Rattle.ast.specs.Numbers.{mapTypeNumber};
 ghost use Rattle.btf.specs.Maps.{mapRoom, typeCount, countCount};
+ghost use Rattle.btf.specs.Builder.{words, newBuilder, moved, passed, membered, entered, Within};
 use ast::CountAttr;
 use ast::MapDecl;
 use ast::MapType;
@@ -64,4 +68,223 @@ pub fn btf_map_size(map: MapDecl) -> u32
     fields += type_count(value);
     fields += count_count(entries);
     fields * 8
+}
+
+// Numbers of four bytes each, over what stands at `at`.
+fn put_words(out: &mut [u8], at: usize, values: &[u64])
+    requires { ⌜ at + 4 * length (now values) ≤ length (now out) ⌝ }
+    ensures { λ _. ⌜ now (out .exit) ≡ over (now (out .entry)) at (words (now (values .entry))) ⌝ }
+{
+    let mut place = at;
+    let mut i = 0;
+    while i < values.len() {
+        octets::put_at(out, place, 4, values[i]);
+        place += 4;
+        i += 1;
+    }
+}
+
+// A type over what stands at `at`: the place of its name, its info word, and the words that its kind has besides.
+fn put_type(out: &mut [u8], at: usize, name: usize, kind: u32, vlen: u32, rest: &[u64])
+    requires { ⌜ kind < 256 ⌝ }
+    requires { ⌜ vlen < 2 ^ 24 ⌝ }
+    requires { ⌜ at + 8 + 4 * length (now rest) ≤ length (now out) ⌝ }
+    ensures { λ _. ⌜ now (out .exit) ≡ over (now (out .entry)) at (words (name ∷ info kind vlen ∷ now (rest .entry))) ⌝ }
+{
+    let info = btf_info(kind, vlen) as u64;
+    put_words(out, at, &[name as u64, info]);
+    put_words(out, at + 8, rest);
+}
+
+// Where the next type goes in lent memory, how long the strings are so far, and the id of the next type. The strings themselves are
+// written apart: a type names a string by its place, which follows from the lengths of those before it.
+pub struct BtfBuilder {
+    pub at: usize,
+    pub strings: usize,
+    pub next_type_id: u32,
+}
+
+impl BtfBuilder {
+    pub const KIND_INT: u32 = 1;
+
+    pub const KIND_PTR: u32 = 2;
+
+    pub const KIND_ARRAY: u32 = 3;
+
+    pub const KIND_STRUCT: u32 = 4;
+
+    pub const KIND_VAR: u32 = 14;
+
+    pub const KIND_DATASEC: u32 = 15;
+
+    pub const INT_SIGNED: u32 = 1;
+
+    pub const VAR_GLOBAL_ALLOCATED: u64 = 1;
+
+    pub const MAGIC: u64 = 0xeb9f;
+
+    pub const VERSION: u64 = 1;
+
+    // How many bytes the section's header has.
+    pub const HEADER: usize = 24;
+
+    // No type yet, and of the strings the zero byte that a table begins with. Ids begin at 1.
+    pub fn new() -> Self
+        ensures { λ r. ⌜ r ≡ newBuilder ⌝ }
+    {
+        BtfBuilder {
+            at: 0,
+            strings: 1,
+            next_type_id: 1,
+        }
+    }
+
+    // An integer type of `size` bytes, whose name has `name` bytes.
+    pub fn add_int(self, out: &mut [u8], name: usize, size: u32, encoding: u32) -> Self
+        requires { ⌜ Within (moved self 16 (name + 1) 1) (length (now out)) ⌝ }
+        ensures { λ _. ⌜ now (out .exit) ≡ over (now (out .entry)) (self .at) (typeBytes (self .strings ∷ []) (int [] size encoding)) ⌝ }
+        ensures { λ r. ⌜ r ≡ moved self 16 (name + 1) 1 ⌝ }
+    {
+        let data = encoding as u64 * 0x1000000 + 8 * (size as u64);
+        put_type(
+            out,
+            self.at,
+            self.strings,
+            BtfBuilder::KIND_INT,
+            0,
+            &[size as u64, data],
+        );
+        BtfBuilder {
+            at: self.at + 16,
+            strings: self.strings + (name + 1),
+            next_type_id: self.next_type_id + 1,
+        }
+    }
+
+    // A pointer to the type `pointee_type`.
+    pub fn add_ptr(self, out: &mut [u8], pointee_type: u32) -> Self
+        requires { ⌜ Within (passed self 12 1) (length (now out)) ⌝ }
+        ensures { λ _. ⌜ now (out .exit) ≡ over (now (out .entry)) (self .at) (typeBytes [] (ptr «pointee_type»)) ⌝ }
+        ensures { λ r. ⌜ r ≡ passed self 12 1 ⌝ }
+    {
+        put_type(
+            out,
+            self.at,
+            0,
+            BtfBuilder::KIND_PTR,
+            0,
+            &[pointee_type as u64],
+        );
+        BtfBuilder {
+            at: self.at + 12,
+            strings: self.strings,
+            next_type_id: self.next_type_id + 1,
+        }
+    }
+
+    // An array of `nelems` elements.
+    pub fn add_array(self, out: &mut [u8], elem_type: u32, index_type: u32, nelems: u32) -> Self
+        requires { ⌜ Within (passed self 24 1) (length (now out)) ⌝ }
+        ensures { λ _. ⌜ now (out .exit) ≡ over (now (out .entry)) (self .at) (typeBytes [] (array «elem_type» «index_type» nelems)) ⌝ }
+        ensures { λ r. ⌜ r ≡ passed self 24 1 ⌝ }
+    {
+        let rest = [0u64, elem_type as u64, index_type as u64, nelems as u64];
+        put_type(out, self.at, 0, BtfBuilder::KIND_ARRAY, 0, &rest);
+        BtfBuilder {
+            at: self.at + 24,
+            strings: self.strings,
+            next_type_id: self.next_type_id + 1,
+        }
+    }
+
+    // A struct of `vlen` members, each of 8 bytes; the members follow, each by `add_member`.
+    pub fn add_struct(self, out: &mut [u8], vlen: u32) -> Self
+        requires { ⌜ vlen < 2 ^ 24 ⌝ }
+        requires { ⌜ Within (passed self 12 1) (length (now out)) ⌝ }
+        ensures { λ _. ⌜ now (out .exit) ≡ over (now (out .entry)) (self .at) (words (0 ∷ info 4 vlen ∷ 8 * vlen ∷ [])) ⌝ }
+        ensures { λ r. ⌜ r ≡ passed self 12 1 ⌝ }
+    {
+        put_type(
+            out,
+            self.at,
+            0,
+            BtfBuilder::KIND_STRUCT,
+            vlen,
+            &[8 * vlen as u64],
+        );
+        BtfBuilder {
+            at: self.at + 12,
+            strings: self.strings,
+            next_type_id: self.next_type_id + 1,
+        }
+    }
+
+    // The struct's member at `position`, whose name has `name` bytes: 64 bits for each member before it.
+    pub fn add_member(self, out: &mut [u8], name: usize, typ: u32, position: u32) -> Self
+        requires { ⌜ Within (membered self (name + 1)) (length (now out)) ⌝ }
+        ensures { λ _. ⌜ now (out .exit) ≡ over (now (out .entry)) (self .at) (words (self .strings ∷ typ ∷ 64 * position ∷ [])) ⌝ }
+        ensures { λ r. ⌜ r ≡ membered self (name + 1) ⌝ }
+    {
+        put_words(
+            out,
+            self.at,
+            &[self.strings as u64, typ as u64, 64 * position as u64],
+        );
+        BtfBuilder {
+            at: self.at + 12,
+            strings: self.strings + (name + 1),
+            next_type_id: self.next_type_id,
+        }
+    }
+
+    // A variable of the type `typ`, whose name has `name` bytes.
+    pub fn add_var(self, out: &mut [u8], name: usize, typ: u32) -> Self
+        requires { ⌜ Within (moved self 16 (name + 1) 1) (length (now out)) ⌝ }
+        ensures { λ _. ⌜ now (out .exit) ≡ over (now (out .entry)) (self .at) (typeBytes (self .strings ∷ []) (var [] typ)) ⌝ }
+        ensures { λ r. ⌜ r ≡ moved self 16 (name + 1) 1 ⌝ }
+    {
+        let rest = [typ as u64, BtfBuilder::VAR_GLOBAL_ALLOCATED];
+        put_type(out, self.at, self.strings, BtfBuilder::KIND_VAR, 0, &rest);
+        BtfBuilder {
+            at: self.at + 16,
+            strings: self.strings + (name + 1),
+            next_type_id: self.next_type_id + 1,
+        }
+    }
+
+    // A section of `size` bytes with `vlen` variables, whose name has `name` bytes; the entries follow, each by `add_entry`.
+    pub fn add_datasec(self, out: &mut [u8], name: usize, size: u32, vlen: u32) -> Self
+        requires { ⌜ vlen < 2 ^ 24 ⌝ }
+        requires { ⌜ Within (moved self 12 (name + 1) 1) (length (now out)) ⌝ }
+        ensures { λ _. ⌜ now (out .exit) ≡ over (now (out .entry)) (self .at) (words (self .strings ∷ info 15 vlen ∷ size ∷ [])) ⌝ }
+        ensures { λ r. ⌜ r ≡ moved self 12 (name + 1) 1 ⌝ }
+    {
+        put_type(
+            out,
+            self.at,
+            self.strings,
+            BtfBuilder::KIND_DATASEC,
+            vlen,
+            &[size as u64],
+        );
+        BtfBuilder {
+            at: self.at + 12,
+            strings: self.strings + (name + 1),
+            next_type_id: self.next_type_id + 1,
+        }
+    }
+
+    // The section's entry for a variable: its id, and the place and the size of what it names.
+    pub fn add_entry(self, out: &mut [u8], typ: u32, offset: u32, size: u32) -> Self
+        requires { ⌜ Within (entered self) (length (now out)) ⌝ }
+        ensures { λ _. ⌜ now (out .exit) ≡ over (now (out .entry)) (self .at) (words (typ ∷ offset ∷ size ∷ [])) ⌝ }
+        ensures { λ r. ⌜ r ≡ entered self ⌝ }
+    {
+        put_words(out, self.at, &[typ as u64, offset as u64, size as u64]);
+        BtfBuilder {
+            at: self.at + 12,
+            strings: self.strings,
+            next_type_id: self.next_type_id,
+        }
+    }
 }

@@ -127,7 +127,12 @@ fn begin() -> Measuring
 }
 
 // The programs' sections, each with its REL section where it has relocations; `symtab` is the number of the symbol table's section.
-fn measure_programs(start: Measuring, programs: [Program; 32], count: usize, symtab: usize) -> Measuring
+fn measure_programs(
+    start: Measuring,
+    programs: [Program; 32],
+    count: usize,
+    symtab: usize,
+) -> Measuring
     requires { ⌜ Low 4 start ⌝ }
     requires { ⌜ (count ≤ 32) × (length programs ≡ 32) ⌝ }
     requires { ⌜ symtab ≤ 68 ⌝ }
@@ -142,7 +147,14 @@ fn measure_programs(start: Measuring, programs: [Program; 32], count: usize, sym
         let len = program.section.len as usize;
         let relocs = program.relocs;
         let number = m.count;
-        let code = plain(m.names, Section::SHT_PROGBITS, 6, m.end, 8, program.code_len as usize);
+        let code = plain(
+            m.names,
+            Section::SHT_PROGBITS,
+            6,
+            m.end,
+            8,
+            program.code_len as usize,
+        );
         m = add_section(m, code, len);
         i += 1;
         if relocs != 0 {
@@ -154,7 +166,14 @@ fn measure_programs(start: Measuring, programs: [Program; 32], count: usize, sym
 }
 
 // A section without link, info and entry size more, whose name has `name` bytes.
-fn add_plain(m: Measuring, name: usize, sh_type: u32, flags: u64, align: u64, size: usize) -> Measuring
+fn add_plain(
+    m: Measuring,
+    name: usize,
+    sh_type: u32,
+    flags: u64,
+    align: u64,
+    size: usize,
+) -> Measuring
     requires { ⌜ Low 70 m ⌝ }
     requires { ⌜ Alignment align ⌝ }
     requires { ⌜ (size ≤ 2000000) × (name ≤ 260) ⌝ }

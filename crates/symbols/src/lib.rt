@@ -17,7 +17,14 @@ use object::BpfObject;
 use object::Program;
 
 // The maps' symbols, from the third entry on; the place of the next name.
-fn put_map_symbols<'a>(out: &mut [u8], text: &[u8], maps: [MapDecl; 64], ats: &'a [u16], lens: &'a [u8], count: usize) -> usize
+fn put_map_symbols<'a>(
+    out: &mut [u8],
+    text: &[u8],
+    maps: [MapDecl; 64],
+    ats: &'a [u16],
+    lens: &'a [u8],
+    count: usize,
+) -> usize
     requires { ⌜ MapsThere (now text) maps (now ats) (now lens) count ⌝ }
     requires { ⌜ 48 + 24 * count ≤ length (now out) ⌝ }
     ensures { λ _. ⌜ now (out .exit) ≡ over (now (out .entry)) 48 (rowAt 10 (mapRow (now (text .entry)) maps (now (ats .entry)) (now (lens .entry)) count)) ⌝ }
@@ -99,7 +106,13 @@ fn put_program_symbols(
 }
 
 // The maps' written names, each with its zero byte, from the eleventh byte on; the place behind them.
-fn put_map_names<'a>(out: &mut [u8], text: &[u8], ats: &'a [u16], lens: &'a [u8], count: usize) -> usize
+fn put_map_names<'a>(
+    out: &mut [u8],
+    text: &[u8],
+    ats: &'a [u16],
+    lens: &'a [u8],
+    count: usize,
+) -> usize
     requires { ⌜ NamesThere (now text) (now ats) (now lens) count ⌝ }
     requires { ⌜ 10 + length (joined (namesIn (now text) (take count (now ats)) (take count (now lens)))) ≤ length (now out) ⌝ }
     ensures { λ _. ⌜ now (out .exit) ≡ over (now (out .entry)) 10 (joined (namesIn (now (text .entry)) (take count (now (ats .entry))) (take count (now (lens .entry))))) ⌝ }
@@ -119,7 +132,13 @@ fn put_map_names<'a>(out: &mut [u8], text: &[u8], ats: &'a [u16], lens: &'a [u8]
 }
 
 // The programs' written names, each with its zero byte, from `start` on.
-fn put_program_names(out: &mut [u8], start: usize, text: &[u8], programs: [Program; 32], count: usize)
+fn put_program_names(
+    out: &mut [u8],
+    start: usize,
+    text: &[u8],
+    programs: [Program; 32],
+    count: usize,
+)
     requires { ⌜ ProgramsThere (now text) programs count ⌝ }
     requires { ⌜ start + length (joined (programNames (now text) (take count programs))) ≤ length (now out) ⌝ }
     ensures { λ _. ⌜ now (out .exit) ≡ over (now (out .entry)) start (joined (programNames (now (text .entry)) (take count programs))) ⌝ }
@@ -226,5 +245,13 @@ pub fn put_symtab(out: &mut [u8], text: &[u8], object: BpfObject, license: usize
     symbol.put(&mut out[24..48]);
     let names = put_map_symbols(out, text, maps, &object.map_at, &object.map_len, count);
     let first = first_program(count);
-    put_program_symbols(out, 48 + 24 * count, names, text, programs, object.program_count, first);
+    put_program_symbols(
+        out,
+        48 + 24 * count,
+        names,
+        text,
+        programs,
+        object.program_count,
+        first,
+    );
 }

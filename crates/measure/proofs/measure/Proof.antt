@@ -18,9 +18,10 @@ use Rattle.measure.proofs.measure.Tie as tie
 measure-programs-requires : tie.Need-measure-programs-requires
 measure-programs-requires c κs =
     let p = c .before .before .before .before .before in
-    let a = p .args in
-    (rw (c .measure-front .ensures) (low-front (a .sizes) (a .object .«map_count») (p .pre .1 .1)),
-    ((p .pre .0 .sound .few-programs, p .pre .0 .sound .programs), c .before .number-behind .ensures .1))
+    let a = p .args in (
+      rw (c .measure-front .ensures) (low-front (a .sizes) (a .object .«map_count») (p .pre .1 .1)),
+      ((p .pre .0 .sound .few-programs, p .pre .0 .sound .programs), c .before .number-behind .ensures .1),
+    )
 
 -- how low the table is, and its rows, where the code has measured the programs and then all
 low₁ : (c : tie.After-measure-programs) → Low 68 (c .measure-programs .result)

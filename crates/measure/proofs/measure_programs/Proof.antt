@@ -155,10 +155,10 @@ loop-again c =
       l .inv .3,
       low₂ c,
       (λ all ms js rest s r.
-      let h = here js (a .t2) (a .count) (l .i) s (omega (arith, d .before .before .before .before .before .loop-test)) (omega (arith, l .inv .1, l .inv .2)) in
-      rw (second c)
-      (rel-row all ms (a .symtab) rest m (l .m .count) (h .it .section) (h .it .relocations) (drop (l .i + 1) js) (p .relocs) (p .section .len) (ap (λ (x : Measuring). x .count) (first d)) (h .same .relocations) (omega arith) (h .same .section)
-      (rows₁ d all ms js rest s r h) (omega (arith, low₁ d, l .inv .0, l .inv .1)) (low₁ d .long))),
+          let h = here js (a .t2) (a .count) (l .i) s (omega (arith, d .before .before .before .before .before .loop-test)) (omega (arith, l .inv .1, l .inv .2)) in
+          rw (second c)
+          (rel-row all ms (a .symtab) rest m (l .m .count) (h .it .section) (h .it .relocations) (drop (l .i + 1) js) (p .relocs) (p .section .len) (ap (λ (x : Measuring). x .count) (first d)) (h .same .relocations) (omega arith) (h .same .section)
+          (rows₁ d all ms js rest s r h) (omega (arith, low₁ d, l .inv .0, l .inv .1)) (low₁ d .long))),
     )
 
 loop-again-2 : tie.Need-loop-again-2 Inv-loop μ-loop
@@ -175,8 +175,8 @@ loop-again-2 c =
       l .inv .3,
       low-more (low₁ d) (omega arith),
       (λ all ms js rest s r.
-      let h = here js (a .t2) (a .count) (l .i) s (omega (arith, d .before .before .before .before .before .loop-test)) (omega (arith, l .inv .1, l .inv .2)) in
-      no-rel-row all ms (a .symtab) rest m (l .m .count) (h .it .section) (h .it .relocations) (drop (l .i + 1) js) (ap (λ (x : Measuring). x .count) (first d)) (h .same .relocations ∙ omega arith) (rows₁ d all ms js rest s r h)),
+          let h = here js (a .t2) (a .count) (l .i) s (omega (arith, d .before .before .before .before .before .loop-test)) (omega (arith, l .inv .1, l .inv .2)) in
+          no-rel-row all ms (a .symtab) rest m (l .m .count) (h .it .section) (h .it .relocations) (drop (l .i + 1) js) (ap (λ (x : Measuring). x .count) (first d)) (h .same .relocations ∙ omega arith) (rows₁ d all ms js rest s r h)),
     )
 
 returns : tie.Need-returns Inv-loop μ-loop

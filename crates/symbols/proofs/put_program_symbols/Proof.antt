@@ -72,9 +72,11 @@ loop-again c =
     let q = g .before .before .before .before .before in
     let l = q .loop in
     let a = q .before .before .before .args in
-    let e = over-part (l .out) (l .at) (l .at + 24) _ (programHere (a .text .now) (a .t5) (a .count) (a .first) (a .start) (a .names) (l .place) (l .section) (getD (a .t5) (l .i) noProgram)) refl (g .put .ensures) in
-    (l .inv .0, program-on (a .text .now) (a .t5) (a .count) (a .first) (a .start) (a .names) (l .inv .0) _ (w .written-size .result) (c .section-behind .result) (l .inv .1) (omega arith)
-    (w .written-size .ensures .0) (w .written-size .ensures .1) (c .section-behind .ensures .0) (c .section-behind .ensures .1) e)
+    let e = over-part (l .out) (l .at) (l .at + 24) _ (programHere (a .text .now) (a .t5) (a .count) (a .first) (a .start) (a .names) (l .place) (l .section) (getD (a .t5) (l .i) noProgram)) refl (g .put .ensures) in (
+      l .inv .0,
+      program-on (a .text .now) (a .t5) (a .count) (a .first) (a .start) (a .names) (l .inv .0) _ (w .written-size .result) (c .section-behind .result) (l .inv .1) (omega arith)
+          (w .written-size .ensures .0) (w .written-size .ensures .1) (c .section-behind .ensures .0) (c .section-behind .ensures .1) e,
+    )
 
 returns : tie.Need-returns Inv-loop μ-loop
 returns c =

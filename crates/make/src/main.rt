@@ -1,0 +1,39 @@
+// The program `make`: a job on standard input, its object on standard output, or the line `refused N line L`. It is thin: all that it
+// decides is decided by `maker::make`. A job of more than 65,535 bytes fills the room and is refused by its length.
+use judge::Refusal;
+use libc::STDIN_FILENO;
+use libc::STDOUT_FILENO;
+use maker::Making;
+
+// The one line that a refused job gets.
+fn say_refused(refusal: Refusal) {
+    io::write_all(STDOUT_FILENO, b"refused ");
+    io::print_decimal(STDOUT_FILENO, refusal.number() as u64);
+    io::write_all(STDOUT_FILENO, b" line ");
+    io::print_decimal(STDOUT_FILENO, refusal.line() as u64);
+    io::write_all(STDOUT_FILENO, b"\n");
+}
+
+// The object at the front of the output.
+fn put_object(out: &[u8], len: usize) {
+    if len <= out.len() {
+        io::write_all(STDOUT_FILENO, &out[0..len]);
+    }
+}
+
+// The job, answered.
+fn answer(job: &[u8]) {
+    let mut out = [0u8; 65536];
+    match maker::make(job, &mut out) {
+        Making::Made(len) => put_object(&out, len),
+        Making::Refused(refusal) => say_refused(refusal),
+    }
+}
+
+fn main() {
+    let mut job = [0u8; 65536];
+    let n = io::read_full(STDIN_FILENO, &mut job);
+    if n <= 65536 {
+        answer(&job[0..n]);
+    }
+}

@@ -1,0 +1,6 @@
+pub mod Laid
+pub mod Turns
+pub mod Alike
+pub mod Sizes
+pub mod Answered
+pub mod Numbers

@@ -1,0 +1,167 @@
+-- `maker::write` meets its contract: the file header, the sections, what lies behind them, the section headers. Assumes nothing.
+use mathlib.Core.Path.{_≡_, refl, sym, _∙_, ap, subst}
+use mathlib.Core.List.{List, [], _∷_, _++_}
+use Prim.Native.Nat.{ℕ, suc, _+_, _-_, _*_, _≤_, _<_}
+use native.Mathlib.Omega.{arith}
+use lib.ListN.{length, take, drop}
+use borrow.Author.Needs.{needs}
+use borrow.Rule.Slice.PartMut.{mid-len}
+use Rattle.octets.specs.Octets.{zeros}
+use Rattle.octets.proofs.Filling.{fill-left, fill-room}
+use Rattle.elf.specs.Elf.{laid}
+use Rattle.object.specs.Read.{jobIn}
+use Rattle.measure.specs.declared.Measured.{Measured}
+use Rattle.maker.specs.Pieces.{allPieces, Placed}
+use Rattle.maker.proofs.Sizes.{few-sections, pieces-placed, pieces-counted, table-at, count-is, ends-before, room-for, file-filled, sections-filled, padding-filled, headers-filled}
+use Rattle.maker.proofs.write.Statement.{statement}
+use Rattle.maker.proofs.write.Tie as tie
+
+-- how many headers there are, and that their table lies in the object
+few : (p : tie.Start) → (1 ≤ p .args .measured .count) × (p .args .measured .count ≤ 71)
+few p =
+    let a = p .args in
+    let c = count-is (a .text .now) (a .object) (p .pre .0) (a .measured) (p .pre .1 .1 .1 .0) in
+    (omega (arith, c), omega (arith, c, few-sections (a .text .now) (a .object) (p .pre .0)))
+
+room : (p : tie.Start) → p .args .measured .at + 64 * p .args .measured .count ≡ length (p .args .out .now)
+room p = let a = p .args in room-for (a .text .now) (a .object) (p .pre .0) (a .measured) (p .pre .1 .1 .1 .0) ∙ sym (p .pre .1 .1 .1 .1)
+
+cast-put-file-header : tie.Need-cast-put-file-header
+cast-put-file-header c = let p = c .before .before .before .before in omega (arith, few p)
+
+sub-put-file-header-2 : tie.Need-sub-put-file-header-2
+sub-put-file-header-2 c = let p = c .before .before .before .before in omega (arith, few p)
+
+cast-put-file-header-2 : tie.Need-cast-put-file-header-2
+cast-put-file-header-2 c = let p = c .before .before .before .before in omega (arith, few p)
+
+part-put-file-header-end : tie.Need-part-put-file-header-end
+part-put-file-header-end c = let p = c .before .before .before in omega (arith, few p, room p)
+
+put-file-header-requires : tie.Need-put-file-header-requires
+put-file-header-requires c κs = let p = c .before .before .before .before in mid-len 0 64 (p .args .out .now) (omega (arith, few p, room p))
+
+write-sections-requires : tie.Need-write-sections-requires
+write-sections-requires c κs =
+    let u = c .before .before .before in
+    let p = u .before .before .before .before .before in
+    let a = p .args in
+    let e = p .pre .1 .1 .1 .0 in
+    let f = file-filled (a .text .now) (a .object) (p .pre .0) (a .measured) e (a .out .now) _ (p .pre .1 .1 .1 .1) (u .put-file-header .ensures) in (
+      p .pre .0,
+      (
+        p .pre .1 .0,
+        (
+          p .pre .1 .1 .0,
+          (
+            subst (λ (m : Measured). Placed (m .table) 1 64 (allPieces (a .text .now) (a .object))) (sym e) (pieces-placed (a .text .now) (a .object) (p .pre .0)),
+            (
+              ap (λ (m : Measured). m .count) e ∙ pieces-counted (a .text .now) (a .object) (p .pre .0),
+              few p .1,
+              omega (arith, fill-left f, ends-before (a .text .now) (a .object) (p .pre .0) (a .measured) e, room p, few p, sym (p .pre .1 .1 .1 .1), f .same),
+            ),
+          ),
+        ),
+      ),
+    )
+
+-- the sections end before the header table
+before-table : (v : tie.After-write-sections) → v .write-sections .result ≤ v .before .before .before .before .before .before .before .before .before .args .measured .at
+before-table v =
+    let p = v .before .before .before .before .before .before .before .before .before in
+    let a = p .args in
+    omega (arith, v .write-sections .ensures .1, ends-before (a .text .now) (a .object) (p .pre .0) (a .measured) (p .pre .1 .1 .1 .0))
+
+sub-clear : tie.Need-sub-clear
+sub-clear c = omega (arith, before-table (c .before .before))
+
+part-clear-start : tie.Need-part-clear-start
+part-clear-start c = omega (arith, before-table (c .before .before))
+
+part-clear-end : tie.Need-part-clear-end
+part-clear-end c =
+    let v = c .before .before in
+    let u = v .before .before .before .before in
+    let p = u .before .before .before .before .before in
+    let a = p .args in
+    let e = p .pre .1 .1 .1 .0 in
+    let f = file-filled (a .text .now) (a .object) (p .pre .0) (a .measured) e (a .out .now) _ (p .pre .1 .1 .1 .1) (u .put-file-header .ensures) in
+    let g = sections-filled (a .text .now) (a .object) (p .pre .0) (a .measured) e _ _ (v .write-sections .result) f (v .write-sections .ensures .0) (v .write-sections .ensures .1) in
+    omega (arith, g .same, room p, p .pre .1 .1 .1 .1)
+
+mul-behind : tie.Need-mul-behind
+mul-behind c =
+    let p = c .before .before .before .before .before .before .before .before .before .before .before .before .before .before .before in
+    omega (arith, few p)
+
+add-behind : tie.Need-add-behind
+add-behind c =
+    let p = c .before .before .before .before .before .before .before .before .before .before .before .before .before .before .before in
+    omega (arith, room p)
+
+part-put-headers-end : tie.Need-part-put-headers-end
+part-put-headers-end c =
+    let z = c .before .before in
+    let v = z .before .before .before .before in
+    let u = v .before .before .before .before in
+    let p = u .before .before .before .before .before in
+    let a = p .args in
+    let e = p .pre .1 .1 .1 .0 in
+    let f = file-filled (a .text .now) (a .object) (p .pre .0) (a .measured) e (a .out .now) _ (p .pre .1 .1 .1 .1) (u .put-file-header .ensures) in
+    let g = sections-filled (a .text .now) (a .object) (p .pre .0) (a .measured) e _ _ (v .write-sections .result) f (v .write-sections .ensures .0) (v .write-sections .ensures .1) in
+    let zero = z .clear .ensures ∙ ap zeros (mid-len (v .write-sections .result) (a .measured .at) _ (omega (arith, g .same, room p, p .pre .1 .1 .1 .1))) in
+    let h = padding-filled (a .text .now) (a .object) (p .pre .0) (a .measured) e _ _ (v .write-sections .result) g (v .write-sections .ensures .1) zero in
+    omega (arith, h .same, room p, p .pre .1 .1 .1 .1)
+
+put-headers-requires : tie.Need-put-headers-requires
+put-headers-requires c κs =
+    let z = c .before .before .before in
+    let v = z .before .before .before .before in
+    let u = v .before .before .before .before in
+    let p = u .before .before .before .before .before in
+    let a = p .args in
+    let e = p .pre .1 .1 .1 .0 in
+    let f = file-filled (a .text .now) (a .object) (p .pre .0) (a .measured) e (a .out .now) _ (p .pre .1 .1 .1 .1) (u .put-file-header .ensures) in
+    let g = sections-filled (a .text .now) (a .object) (p .pre .0) (a .measured) e _ _ (v .write-sections .result) f (v .write-sections .ensures .0) (v .write-sections .ensures .1) in
+    let zero = z .clear .ensures ∙ ap zeros (mid-len (v .write-sections .result) (a .measured .at) _ (omega (arith, g .same, room p, p .pre .1 .1 .1 .1))) in
+    let h = padding-filled (a .text .now) (a .object) (p .pre .0) (a .measured) e _ _ (v .write-sections .result) g (v .write-sections .ensures .1) zero in
+    let k : a .measured .at + 64 * a .measured .count - a .measured .at ≡ 64 * a .measured .count = omega arith in
+    (few p .1, mid-len (a .measured .at) (a .measured .at + 64 * a .measured .count) _ (omega (arith, h .same, room p, p .pre .1 .1 .1 .1)) ∙ k)
+
+returns : tie.Need-returns
+returns c =
+    let x = c .before .before in
+    let z = x .before .before .before .before in
+    let v = z .before .before .before .before in
+    let u = v .before .before .before .before in
+    let p = u .before .before .before .before .before in
+    let a = p .args in
+    let e = p .pre .1 .1 .1 .0 in
+    let f = file-filled (a .text .now) (a .object) (p .pre .0) (a .measured) e (a .out .now) _ (p .pre .1 .1 .1 .1) (u .put-file-header .ensures) in
+    let g = sections-filled (a .text .now) (a .object) (p .pre .0) (a .measured) e _ _ (v .write-sections .result) f (v .write-sections .ensures .0) (v .write-sections .ensures .1) in
+    let zero = z .clear .ensures ∙ ap zeros (mid-len (v .write-sections .result) (a .measured .at) _ (omega (arith, g .same, room p, p .pre .1 .1 .1 .1))) in
+    let h = padding-filled (a .text .now) (a .object) (p .pre .0) (a .measured) e _ _ (v .write-sections .result) g (v .write-sections .ensures .1) zero in
+    headers-filled (a .text .now) (a .object) (p .pre .0) (a .measured) e _ _ h (x .put-headers .ensures)
+
+pub write-spec : {M : Type 1} → statement M
+write-spec =
+    tie.close
+    (tie.spec
+    (search needs) (search needs)
+    part-put-file-header-end
+    cast-put-file-header
+    sub-put-file-header-2
+    cast-put-file-header-2
+    put-file-header-requires
+    write-sections-requires
+    sub-clear
+    part-clear-start
+    part-clear-end
+    (search needs)
+    mul-behind
+    add-behind
+    (search needs) (search needs)
+    part-put-headers-end
+    put-headers-requires
+    (search needs)
+    returns)

@@ -1,0 +1,4 @@
+pub mod Attributes
+pub mod Members
+pub mod Section
+pub mod Strings
