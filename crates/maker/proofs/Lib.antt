@@ -4,3 +4,5 @@ pub mod Alike
 pub mod Sizes
 pub mod Answered
 pub mod Numbers
+pub mod Demands
+pub mod Single

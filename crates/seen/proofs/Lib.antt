@@ -8,3 +8,4 @@ pub mod Programs
 pub mod Bounds
 pub mod Loading
 pub mod Accepted
+pub mod Written
