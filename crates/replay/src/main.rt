@@ -1,8 +1,10 @@
 // Replays the stored answers of the Rust, data/answers.list: each job's answer is held against the stored one, and the counts are
-// printed. A record is four numbers of four bytes (length of the job, number of the refusal or 0, its line, length of the object), then
+// printed. An accepted job is tried in the room of 65,536 bytes, in just as much as its object takes, with one byte less and with none: the
+// last two are refused 8 with the length needed. Beyond the object, and after a refusal, the output is as it was. A record is four numbers of four bytes (length of the job, number of the refusal or 0, its line, length of the object), then
 // the job, then the object.
-use job::Parsing;
+use judge::Refusal;
 use libc::STDOUT_FILENO;
+use maker::Making;
 
 // What one record showed.
 enum Shown {
@@ -13,52 +15,150 @@ enum Shown {
     Refused,
 }
 
-// Whether an answer is the stored one: number 0 is an accepted job.
-fn agrees(answer: Parsing, number: u64, line: u64) -> bool {
-    match answer {
-        Parsing::Accepted => number == 0,
-        Parsing::Refused(r) => {
-            let n = r.number() as u64;
-            let l = r.line() as u64;
-            n == number && l == line
+// Whether lent bytes are still those that were there: every byte is 90 before a job is answered.
+fn untouched(out: &[u8]) -> bool {
+    let before = [90u8; 65536];
+    let n = out.len();
+    if 65536 < n {
+        return false;
+    }
+    octets::same(out, &before[0..n])
+}
+
+// Whether `out` is the object and then the bytes that were there.
+fn holds(out: &[u8], object: &[u8]) -> bool {
+    let n = object.len();
+    let all = out.len();
+    if all < n {
+        return false;
+    }
+    if octets::same(&out[0..n], object) {
+        return untouched(&out[n..all]);
+    }
+    false
+}
+
+// Whether the job gets exactly the object into `out`.
+fn makes(job: &[u8], out: &mut [u8], object: &[u8]) -> bool {
+    match maker::make(job, out) {
+        Making::Made(len) => {
+            if len == object.len() {
+                return holds(out, object);
+            }
+            false
+        }
+        Making::Refused(_) => false,
+    }
+}
+
+// Whether the job is refused for its room, with the length `n` that it needs, and `out` is left as it was.
+fn wants(job: &[u8], out: &mut [u8], n: usize) -> bool {
+    match maker::make(job, out) {
+        Making::Made(_) => false,
+        Making::Refused(r) => {
+            if is_refusal(r, 8, 0) {
+                if r.needed() == n {
+                    return untouched(out);
+                }
+            }
+            false
         }
     }
 }
 
-// The answer to a job, held against the stored one.
-fn answered(text: &[u8], number: u64, line: u64) -> Shown {
-    let parsed = job::parse(text);
-    let answer = parsed.answer;
-    if !agrees(answer, number, line) {
+// Whether a refusal has this number and this line.
+fn is_refusal(r: Refusal, number: u64, line: u64) -> bool {
+    let n = r.number() as u64;
+    let l = r.line() as u64;
+    n == number && l == line
+}
+
+// Whether the job gets its object in the room of 65,536 bytes and in just as much as it needs, and is refused 8 with one byte less and
+// with none.
+fn makes_in_each_room(job: &[u8], object: &[u8]) -> bool {
+    let n = object.len();
+    if n < 1 {
+        return false;
+    }
+    if 65536 < n {
+        return false;
+    }
+    let mut out = [90u8; 65536];
+    if !makes(job, &mut out, object) {
+        return false;
+    }
+    let mut just = [90u8; 65536];
+    if !makes(job, &mut just[0..n], object) {
+        return false;
+    }
+    let less = n - 1;
+    if 65536 < less {
+        return false;
+    }
+    let mut short = [90u8; 65536];
+    if !wants(job, &mut short[0..less], n) {
+        return false;
+    }
+    wants(job, &mut short[0..0], n)
+}
+
+// Whether the job is refused as stored, and the output is left as it was.
+fn refuses(job: &[u8], number: u64, line: u64) -> bool {
+    let mut out = [90u8; 65536];
+    match maker::make(job, &mut out) {
+        Making::Made(_) => false,
+        Making::Refused(r) => {
+            if is_refusal(r, number, line) {
+                return untouched(&out);
+            }
+            false
+        }
+    }
+}
+
+// The answer to a job, held against the stored one: number 0 is an accepted job.
+fn answered(job: &[u8], object: &[u8], number: u64, line: u64) -> Shown {
+    if number == 0 {
+        if makes_in_each_room(job, object) {
+            return Shown::Accepted;
+        }
         return Shown::Differs;
     }
-    if number == 0 {
-        return Shown::Accepted;
+    if refuses(job, number, line) {
+        return Shown::Refused;
     }
-    Shown::Refused
+    Shown::Differs
+}
+
+// The answer to a record's job, which ends at `middle` and is followed by the object.
+fn answered_record(record: &[u8], middle: usize, number: u64, line: u64) -> Shown {
+    let all = record.len();
+    if all < middle {
+        return Shown::Broken;
+    }
+    answered(&record[0..middle], &record[middle..all], number, line)
 }
 
 // The job of `n` bytes and the object of `m` bytes that follow a record's numbers, by way of `space`.
 fn replay_job(fd: i32, space: &mut [u8], n: usize, m: usize, number: u64, line: u64) -> Shown {
-    if space.len() < n {
+    if 131072 < n {
         return Shown::Broken;
     }
-    let read = io::read_full(fd, &mut space[0..n]);
-    if read < n {
+    if 65536 < m {
         return Shown::Broken;
     }
-    if space.len() < n {
+    let all = n + m;
+    if space.len() < all {
         return Shown::Broken;
     }
-    let shown = answered(&space[0..n], number, line);
-    if space.len() < m {
+    let read = io::read_full(fd, &mut space[0..all]);
+    if read < all {
         return Shown::Broken;
     }
-    let skipped = io::read_full(fd, &mut space[0..m]);
-    if skipped < m {
+    if space.len() < all {
         return Shown::Broken;
     }
-    shown
+    answered_record(&space[0..all], n, number, line)
 }
 
 // The next record.
@@ -75,7 +175,7 @@ fn replay_one(fd: i32) -> Shown {
     let number = octets::get_at(&head, 4, 4);
     let line = octets::get_at(&head, 8, 4);
     let m = octets::get_at(&head, 12, 4) as usize;
-    let mut space = [0u8; 131072];
+    let mut space = [0u8; 196608];
     replay_job(fd, &mut space, n, m, number, line)
 }
 
@@ -121,7 +221,14 @@ fn main() {
         }
     }
     libc::close(fd);
-    print(b" accepted as stored\n", accepted);
+    print(
+        b" objects as stored, in 65536 bytes and in just their length\n",
+        accepted,
+    );
+    print(
+        b" refused 8 with the length needed, by one byte and by all\n",
+        accepted,
+    );
     print(b" refused as stored\n", refused);
     print(b" that differ\n", differ);
 }
