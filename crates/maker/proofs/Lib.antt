@@ -1,6 +1,3 @@
-pub mod Laid
-pub mod Turns
-pub mod Alike
 pub mod Sizes
 pub mod Answered
 pub mod Numbers

@@ -39,8 +39,8 @@ use Rattle.measure.specs.declared.Sizes.{Sizes}
 use Rattle.measure.specs.declared.Measured.{Measured}
 use Rattle.measure.specs.Measured.{SizesOf, Small, sectionsOf, tableSections, rowsOf, rowsFrom, measuredOf}
 use Rattle.measure.proofs.Whole.{aligned, object-length}
-use Rattle.maker.specs.Pieces.{allPieces, Placed}
-use Rattle.maker.proofs.Alike.{alike-all, alike-laid, alike-length, alike-aligned, alike-placed, rows-placed, rows-headers, rows-count}
+use Rattle.sections.specs.Pieces.{allPieces, Placed}
+use Rattle.sections.proofs.Alike.{alike-all, alike-laid, alike-length, alike-aligned, alike-placed, rows-placed, rows-headers, rows-count}
 
 module _ (text : List ℕ) (o : BpfObject) (k : Kept text o) where
   pub rooms : (room : ℕ) → room ≡ roomsOf (take (o .«map_count») (o .maps)) → mapTypes 6 0 (declaredMaps text o) .size ≡ room

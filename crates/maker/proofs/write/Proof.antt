@@ -11,7 +11,7 @@ use Rattle.octets.proofs.Filling.{fill-left, fill-room}
 use Rattle.elf.specs.Elf.{laid}
 use Rattle.object.specs.Read.{jobIn}
 use Rattle.measure.specs.declared.Measured.{Measured}
-use Rattle.maker.specs.Pieces.{allPieces, Placed}
+use Rattle.sections.specs.Pieces.{allPieces, Placed}
 use Rattle.maker.proofs.Sizes.{few-sections, pieces-placed, pieces-counted, table-at, count-is, ends-before, room-for, file-filled, sections-filled, padding-filled, headers-filled}
 use Rattle.maker.proofs.write.Statement.{statement}
 use Rattle.maker.proofs.write.Tie as tie

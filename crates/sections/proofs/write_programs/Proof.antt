@@ -1,4 +1,4 @@
--- `maker::write_programs` meets its contract. Assumes nothing.
+-- `sections::write_programs` meets its contract. Assumes nothing.
 use mathlib.Core.Path.{_≡_, refl, sym, _∙_, ap, subst}
 use mathlib.Core.List.{List, [], _∷_, _++_}
 use Prim.Native.Nat.{ℕ, suc, _+_, _-_, _*_, _≤_, _<_}
@@ -14,10 +14,10 @@ use Rattle.contents.specs.Slots.{slotsBytes}
 use Rattle.named.proofs.There.{kept-program}
 use Rattle.symbols.specs.Rows.{ProgramsThere}
 use Rattle.symbols.proofs.Rows.{program-from, program-end}
-use Rattle.maker.specs.Pieces.{bare, relPiece, programPieces, AllSlotted}
-use Rattle.maker.proofs.Turns.{Turn, turn-start, turn-room, turn-on, turn-done, aligned-programs, no-rels, some-rels, rels-long}
-use Rattle.maker.proofs.write_programs.Statement.{statement}
-use Rattle.maker.proofs.write_programs.Tie as tie
+use Rattle.sections.specs.Pieces.{bare, relPiece, programPieces, AllSlotted}
+use Rattle.sections.proofs.Turns.{Turn, turn-start, turn-room, turn-on, turn-done, aligned-programs, no-rels, some-rels, rels-long}
+use Rattle.sections.proofs.write_programs.Statement.{statement}
+use Rattle.sections.proofs.write_programs.Tie as tie
 
 abbrev Inv-loop : tie.InvT-loop
 Inv-loop out₀ start text slots count first programs table end₀ n₀ i₀ out end n i =

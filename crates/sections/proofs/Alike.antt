@@ -28,7 +28,7 @@ use Rattle.contents.proofs.Slots.{slots-resolved, part-resolved, resolved-place
 use Rattle.symbols.proofs.Whole.{count-declared, programs-there}
 use Rattle.headers.specs.Headers.{headersBytes}
 use Rattle.measure.specs.Measured.{sectionOf, rowsFrom, rowsOf, sectionsOf, tableSections}
-use Rattle.maker.specs.Pieces.{bare, relPiece, programPieces, mapPieces, tablePieces, allPieces, noSection, Placed, AllSlotted}
+use Rattle.sections.specs.Pieces.{bare, relPiece, programPieces, mapPieces, tablePieces, allPieces, noSection, Placed, AllSlotted}
 
 abbrev pub Alike : List Section → List Section → Type 0
 Alike [] [] = Unit

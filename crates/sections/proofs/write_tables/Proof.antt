@@ -1,4 +1,4 @@
--- `maker::write_tables` meets its contract. Assumes nothing.
+-- `sections::write_tables` meets its contract. Assumes nothing.
 use mathlib.Core.Path.{_≡_, refl, sym, _∙_, ap, subst}
 use mathlib.Core.List.{List, [], _∷_, _++_}
 use Prim.Native.Nat.{ℕ, suc, _+_, _-_, _*_, _≤_, _<_}
@@ -6,10 +6,10 @@ use native.Mathlib.Omega.{arith}
 use lib.ListN.{length, take, drop, getD}
 use borrow.Author.Needs.{needs}
 use Rattle.object.specs.Read.{jobIn}
-use Rattle.maker.specs.Pieces.{tablePieces}
-use Rattle.maker.proofs.Turns.{Turn, turn-start, turn-room, turn-on, turn-done}
-use Rattle.maker.proofs.write_tables.Statement.{statement}
-use Rattle.maker.proofs.write_tables.Tie as tie
+use Rattle.sections.specs.Pieces.{tablePieces}
+use Rattle.sections.proofs.Turns.{Turn, turn-start, turn-room, turn-on, turn-done}
+use Rattle.sections.proofs.write_tables.Statement.{statement}
+use Rattle.sections.proofs.write_tables.Tie as tie
 
 -- before the tables
 begun : (c : tie.Start) → let a = c .args in let all = tablePieces (jobIn (a .text .now) (a .object)) in Turn (a .t6) (a .out .now) (a .end) all (a .out .now) (a .end) (a .n) all

@@ -24,9 +24,9 @@ use Rattle.object.specs.Read.{codeOf, body}
 use Rattle.contents.specs.Slots.{slotsBytes, AllPlaced}
 use Rattle.contents.proofs.Slots.{slots-length}
 use Rattle.named.proofs.Going.{Going, go-start, go-as, go-room, go-on, go-done}
-use Rattle.maker.specs.Pieces.{bare, relPiece, programPieces, mapPieces, noSection, Placed, AllSlotted}
+use Rattle.sections.specs.Pieces.{bare, relPiece, programPieces, mapPieces, noSection, Placed, AllSlotted}
 use Rattle.symbols.specs.Rows.{firstOf}
-use Rattle.maker.proofs.Laid.{laid-append, end-append}
+use Rattle.sections.proofs.Laid.{laid-append, end-append}
 
 -- `all` are to be written from `start` on over `d`; those before section `n` are, up to `end`, and `rest` is to come
 pub record Turn (table : List code.Section) (d : List ℕ) (start : ℕ) (all : List Section) (out : List ℕ) (end n : ℕ) (rest : List Section) : Type 0 where

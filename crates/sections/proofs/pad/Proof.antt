@@ -1,4 +1,4 @@
--- `maker::pad` meets its contract. Assumes nothing.
+-- `sections::pad` meets its contract. Assumes nothing.
 use mathlib.Core.Path.{_≡_, refl, sym, _∙_, ap}
 use mathlib.Core.List.{List, [], _∷_, _++_}
 use Prim.Native.Nat.{ℕ, _+_, _-_, _*_, _≤_, _<_}
@@ -8,8 +8,8 @@ use borrow.Author.Needs.{needs}
 use borrow.Rule.Slice.PartMut.{mid-len}
 use Rattle.octets.specs.Octets.{zeros}
 use Rattle.octets.proofs.Filling.{over-part}
-use Rattle.maker.proofs.pad.Statement.{statement}
-use Rattle.maker.proofs.pad.Tie as tie
+use Rattle.sections.proofs.pad.Statement.{statement}
+use Rattle.sections.proofs.pad.Tie as tie
 
 returns : tie.Need-returns
 returns c =

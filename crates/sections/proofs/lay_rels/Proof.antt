@@ -1,4 +1,4 @@
--- `maker::lay_rels` meets its contract. Assumes nothing.
+-- `sections::lay_rels` meets its contract. Assumes nothing.
 use mathlib.Core.Path.{_≡_, refl, sym, _∙_, ap}
 use mathlib.Core.List.{List, [], _∷_, _++_}
 use Prim.Native.Nat.{ℕ, _+_, _-_, _*_, _≤_, _<_}
@@ -7,11 +7,11 @@ use lib.ListN.{length, take, drop, length-append}
 use borrow.Author.Needs.{needs}
 use Rattle.elf.specs.Elf.{alignTo}
 use Rattle.elf.proofs.Places.{align-up}
-use Rattle.maker.specs.Pieces.{bare}
-use Rattle.maker.proofs.Laid.{lay, lay-end, lay-part}
+use Rattle.sections.specs.Pieces.{bare}
+use Rattle.sections.proofs.Laid.{lay, lay-end, lay-part}
 use Rattle.contents.specs.Slots.{slotsBytes}
-use Rattle.maker.proofs.lay_rels.Statement.{statement}
-use Rattle.maker.proofs.lay_rels.Tie as tie
+use Rattle.sections.proofs.lay_rels.Statement.{statement}
+use Rattle.sections.proofs.lay_rels.Tie as tie
 
 pad-requires : tie.Need-pad-requires
 pad-requires c κs =

@@ -1,4 +1,4 @@
--- `maker::lay_strtab` meets its contract. Assumes nothing.
+-- `sections::lay_strtab` meets its contract. Assumes nothing.
 use mathlib.Core.Path.{_≡_, refl, sym, _∙_, ap}
 use mathlib.Core.List.{List, [], _∷_, _++_}
 use Prim.Native.Nat.{ℕ, _+_, _-_, _*_, _≤_, _<_}
@@ -7,12 +7,12 @@ use lib.ListN.{length, take, drop, length-append, length-replicate}
 use borrow.Author.Needs.{needs}
 use Rattle.elf.specs.Elf.{alignTo}
 use Rattle.elf.proofs.Places.{align-up}
-use Rattle.maker.specs.Pieces.{bare}
-use Rattle.maker.proofs.Laid.{lay, lay-end, lay-part}
+use Rattle.sections.specs.Pieces.{bare}
+use Rattle.sections.proofs.Laid.{lay, lay-end, lay-part}
 use Rattle.object.specs.Read.{jobIn}
 use Rattle.symbols.specs.Rows.{strtabOf}
-use Rattle.maker.proofs.lay_strtab.Statement.{statement}
-use Rattle.maker.proofs.lay_strtab.Tie as tie
+use Rattle.sections.proofs.lay_strtab.Statement.{statement}
+use Rattle.sections.proofs.lay_strtab.Tie as tie
 
 pad-requires : tie.Need-pad-requires
 pad-requires c κs =

@@ -1,4 +1,4 @@
--- `maker::write_sections` meets its contract: the licence, the maps' sections, the programs', the tables. Assumes nothing.
+-- `sections::write_sections` meets its contract: the licence, the maps' sections, the programs', the tables. Assumes nothing.
 use mathlib.Core.Path.{_≡_, refl, sym, _∙_, ap, subst}
 use mathlib.Core.List.{List, [], _∷_, _++_}
 use Prim.Native.Nat.{ℕ, suc, _+_, _-_, _*_, _≤_, _<_}
@@ -10,11 +10,11 @@ use Rattle.object.specs.Read.{declaredMaps, jobIn}
 use Rattle.symbols.proofs.Whole.{programs-there}
 use Rattle.measure.specs.Measured.{sectionsOf}
 use Rattle.measure.proofs.Whole.{aligned}
-use Rattle.maker.specs.Pieces.{mapPieces, programPieces, tablePieces, allPieces}
-use Rattle.maker.proofs.Turns.{Turn, turn-start, turn-room, turn-on, turn-done, row-placed, row-room, row-on, first-index}
-use Rattle.maker.proofs.Alike.{alike-all, alike-aligned, all-slotted}
-use Rattle.maker.proofs.write_sections.Statement.{statement}
-use Rattle.maker.proofs.write_sections.Tie as tie
+use Rattle.sections.specs.Pieces.{mapPieces, programPieces, tablePieces, allPieces}
+use Rattle.sections.proofs.Turns.{Turn, turn-start, turn-room, turn-on, turn-done, row-placed, row-room, row-on, first-index}
+use Rattle.sections.proofs.Alike.{alike-all, alike-aligned, all-slotted}
+use Rattle.sections.proofs.write_sections.Statement.{statement}
+use Rattle.sections.proofs.write_sections.Tie as tie
 
 abbrev maps : tie.Start → List Section
 maps p = mapPieces (p .args .object .«map_count») (declaredMaps (p .args .text .now) (p .args .object))

@@ -1,4 +1,4 @@
--- `maker::write_maps` meets its contract. Assumes nothing.
+-- `sections::write_maps` meets its contract. Assumes nothing.
 use mathlib.Core.Path.{_≡_, refl, sym, _∙_, ap, subst}
 use mathlib.Core.List.{List, [], _∷_, _++_}
 use Prim.Native.Nat.{ℕ, suc, _+_, _-_, _*_, _≤_, _<_}
@@ -13,10 +13,10 @@ use Rattle.btf.specs.Maps.{mapTypes, btfTypes}
 use Rattle.object.specs.Read.{declaredMaps}
 use Rattle.named.proofs.There.{kept-maps}
 use Rattle.named.proofs.Going.{over-nothing}
-use Rattle.maker.specs.Pieces.{bare, mapPieces, noSection, Placed}
-use Rattle.maker.proofs.Turns.{Turn, turn-start, turn-room, turn-on, turn-done, no-maps, some-maps, zeros-piece}
-use Rattle.maker.proofs.write_maps.Statement.{statement}
-use Rattle.maker.proofs.write_maps.Tie as tie
+use Rattle.sections.specs.Pieces.{bare, mapPieces, noSection, Placed}
+use Rattle.sections.proofs.Turns.{Turn, turn-start, turn-room, turn-on, turn-done, no-maps, some-maps, zeros-piece}
+use Rattle.sections.proofs.write_maps.Statement.{statement}
+use Rattle.sections.proofs.write_maps.Tie as tie
 
 returns : tie.Need-returns
 returns c =
