@@ -15,8 +15,8 @@ use Rattle.lines.specs.Hex.{there, isHex, isFrame, bytesOf, bytesIn}
 use Rattle.lines.specs.declared.LineEnd.the-variants.{Ended, Cut}
 use Rattle.lines.proofs.Laws.{line, cut, line-ended, line-cut, no}
 use Rattle.lines.proofs.Bytes.{bytes-length}
-use Rattle.judge.specs.Checked.{Stage, Checked, Step, takeLine, takeLines, takeBytes, went, stopped, faulty}
-use Rattle.judge.specs.Refusal.{numberOf}
+use Rattle.refusals.specs.Checked.{Stage, Checked, Step, takeLine, takeLines, takeBytes, went, stopped, faulty}
+use Rattle.refusals.specs.Refusal.{numberOf}
 use Rattle.judge.specs.Judged.{Framed, lineBytes, Judged}
 use Rattle.judge.specs.declared.Verdict.{Verdict}
 use Rattle.judge.specs.declared.Verdict.the-variants as verdict

@@ -31,8 +31,8 @@ use Rattle.object.specs.Tables.{emptySlot, Sound, done, withLicense, withMap, a
 use Rattle.object.specs.Read.{nameIn, entryIn, relocationsIn, frameCode, lineCode, codeOf, body, programIn, programsIn, declaredMaps, jobIn}
 use Rattle.object.specs.Kept.{Named, ResolvedEntry, AllFrames, ProgramKept, AllKept, Kept}
 use Rattle.object.proofs.Programs.{take-next, drop-next, part-more, code-snoc, frames-snoc, relocations-snoc, programs-snoc, programs-kept, kept-more, kept-snoc}
-use Rattle.judge.specs.Checked.{Stage, takeBytes, takeLines, empty, went, accepted, advance, declare, onLast, withCode, withRelocation}
-use Rattle.judge.specs.Names.{Names}
+use Rattle.refusals.specs.Checked.{Stage, takeBytes, takeLines, empty, went, accepted, advance, declare, onLast, withCode, withRelocation}
+use Rattle.lookup.specs.Names.{Names}
 use Rattle.judge.specs.Judged.{lineBytes, Held, Declared, declarationFrame}
 use Rattle.judge.specs.declared.Declaration.{Declaration}
 use Rattle.judge.specs.declared.Declaration.the-variants.{License, Map as MapOf, Program as ProgramOf}

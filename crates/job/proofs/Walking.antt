@@ -28,7 +28,7 @@ use Rattle.object.specs.Read.{nameIn, mapIn, mapsIn, entryIn, relocationsIn, fr
 use Rattle.object.specs.Kept.{Named, ResolvedEntry, AllFrames, ProgramKept, AllKept, Kept}
 use Rattle.object.proofs.Read.{maps-set, count-maps, took}
 use Rattle.object.proofs.Programs.{take-next, drop-next, part-more, code-snoc, frames-snoc, relocations-snoc, programs-snoc, programs-length, programs-kept, kept-more, kept-snoc}
-use Rattle.judge.specs.Checked.{Stage, takeBytes, takeLines, empty, went, advance, declare, counts, onLast, withCode, withRelocation}
+use Rattle.refusals.specs.Checked.{Stage, takeBytes, takeLines, empty, went, advance, declare, counts, onLast, withCode, withRelocation}
 use Rattle.judge.specs.Judged.{Framed, lineBytes, mapFrameOf}
 use Rattle.job.specs.Walked.{Next, openedAt, codeAdded, relocAdded, openIn, stageIn}
 use Rattle.job.proofs.Lines.{line-bytes, goes-on}

@@ -5,9 +5,9 @@ use Prim.Native.Nat.{ℕ}
 use lib.ListN.{length, drop}
 use lib.Dec.{leb}
 use Rattle.object.specs.Object.{object}
-use Rattle.judge.specs.Checked.{checked, accepted, faulty}
-use Rattle.judge.specs.Refusal.{numberOf, lineOf, neededOf}
-use Rattle.judge.specs.declared.Refusal.{Refusal}
+use Rattle.refusals.specs.Checked.{checked, accepted, faulty}
+use Rattle.refusals.specs.Refusal.{numberOf, lineOf, neededOf}
+use Rattle.refusals.specs.declared.Refusal.{Refusal}
 
 -- `refused number line needed`: the length needed is 0 in every refusal but 8
 pub data Answer : Type 0 where

@@ -14,12 +14,12 @@ use Rattle.object.specs.declared.Program.{Program}
 use Rattle.object.specs.declared.BpfObject.{BpfObject}
 use Rattle.object.specs.declared.Added.{Added}
 use Rattle.object.specs.Tables.{done, withLicense, addedMap, withProgram, addedProgram}
-use Rattle.judge.specs.Checked.{Stage, takeLines, Checked, accepted, faulty}
+use Rattle.refusals.specs.Checked.{Stage, takeLines, Checked, accepted, faulty}
 use Rattle.judge.specs.Judged.{Framed, lineBytes, Judged}
 use Rattle.judge.specs.declared.Counts.{Counts}
 use Rattle.judge.specs.declared.Verdict.{Verdict}
 use Rattle.judge.specs.declared.Verdict.the-variants as verdict
-use Rattle.judge.specs.declared.Refusal.the-variants as refusal
+use Rattle.refusals.specs.declared.Refusal.the-variants as refusal
 use Rattle.object.specs.declared.Adding.{Adding}
 use Rattle.object.specs.declared.Adding.the-variants as adding
 use Rattle.ast.specs.Job as job
@@ -27,8 +27,8 @@ use Rattle.object.specs.declared.Entry.{Entry}
 use Rattle.object.specs.declared.Slot.{Slot}
 use Rattle.object.specs.Read.{licenceIn, declaredMaps, programIn, programsIn, jobIn}
 use Rattle.object.specs.Kept.{Kept}
-use Rattle.judge.specs.Refusal.{numberOf, lineOf}
-use Rattle.judge.specs.declared.Refusal.{Refusal}
+use Rattle.refusals.specs.Refusal.{numberOf, lineOf}
+use Rattle.refusals.specs.declared.Refusal.{Refusal}
 use Rattle.judge.specs.declared.Declaration.{Declaration}
 use Rattle.judge.specs.declared.Declaration.the-variants as declaration
 use Rattle.job.specs.declared.Built.{Built}

@@ -4,16 +4,15 @@ ghost use mathlib.Core.Path.{_≡_};
 ghost use Prim.Native.Nat.{_+_, _≤_, _<_};
 ghost use lib.ListN.{length};
 ghost use Rattle.object.specs.Tables.{Sound};
-ghost use Rattle.judge.specs.Checked.{Stage, takeLines, empty, checked};
+ghost use Rattle.refusals.specs.Checked.{Stage, takeLines, empty, checked};
 ghost use Rattle.lines.specs.Lines.{lines};
 ghost use Rattle.job.specs.Walked.{LineSays, openedAt, codeAdded, relocAdded, closedOf, builtOf, builtWith, refusedWith, finishedOf, countsOf, Saying, parsedIn, ParsedKept};
-ghost use Rattle.judge.specs.Names.{Names};
+ghost use Rattle.lookup.specs.Names.{Names};
 ghost use Rattle.judge.specs.Judged.{Agrees, Held};
 use ast::Name;
 use frames::Frame;
 use judge::Counts;
 use judge::Declaration;
-use judge::Refusal;
 use judge::Verdict;
 use lines::LineEnd;
 use object::Added;
@@ -21,6 +20,7 @@ use object::Adding;
 use object::BpfObject;
 use object::Program;
 use object::Slot;
+use refusals::Refusal;
 
 // What a line says: a frame and where the line ends, or that it is no line of the format.
 enum LineRead {

@@ -14,15 +14,15 @@ use Rattle.ast.specs.Job.{lastMap}
 use Rattle.ast.specs.declared.MapType.{MapType}
 use Rattle.ast.specs.declared.TypeAttr.{TypeAttr}
 use Rattle.ast.specs.declared.CountAttr.{CountAttr}
-use Rattle.judge.specs.Checked.{Stage, Reason, reason, reasons, first, long, declares, takeFrame, takeBytes, went, stopped, advance}
-use Rattle.judge.specs.Refusal.{numberOf, lineOf}
-use Rattle.judge.specs.Flaws.{flawOf, nameFlaw, stringFlaw, programFlaw, faultOf}
-use Rattle.judge.specs.declared.Fault.{Fault}
-use Rattle.judge.specs.declared.Fault.the-variants.{Nothing, Is}
-use Rattle.judge.specs.declared.Refusal.{Refusal}
+use Rattle.refusals.specs.Checked.{Stage, Reason, reason, reasons, first, long, declares, takeFrame, takeBytes, went, stopped, advance}
+use Rattle.refusals.specs.Refusal.{numberOf, lineOf}
+use Rattle.flaws.specs.Flaws.{flawOf, nameFlaw, stringFlaw, programFlaw, faultOf}
+use Rattle.flaws.specs.declared.Fault.{Fault}
+use Rattle.flaws.specs.declared.Fault.the-variants.{Nothing, Is}
+use Rattle.refusals.specs.declared.Refusal.{Refusal}
 use Rattle.judge.specs.declared.Verdict.the-variants.{Refused}
 use Rattle.judge.specs.Judged.{Judged}
-use Rattle.judge.proofs.Flaws.{faultNumber, fault-first, AtLine, fault-line}
+use Rattle.flaws.proofs.Flaws.{faultNumber, fault-first, AtLine, fault-line}
 
 -- ---- a frame that is refused, and one that is taken
 

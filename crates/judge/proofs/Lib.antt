@@ -1,10 +1,5 @@
-pub mod Names
-pub mod ByWrittenName
-pub mod Flaws
 pub mod Pieces
 pub mod Judge
 pub mod Relocation
-pub mod WithinFrames
-pub mod Within
 pub mod Single
 pub mod Unknown

@@ -11,7 +11,7 @@ use Rattle.lines.specs.Hex.{isHex, bytesIn}
 use Rattle.lines.proofs.Parts.{line-length, some-bytes, some-hex, last-bytes}
 use Rattle.text.specs.Utf8.{isText}
 use Rattle.object.specs.Read.{nameIn}
-use Rattle.judge.specs.Checked.{long}
+use Rattle.refusals.specs.Checked.{long}
 use Rattle.object.specs.Kept.{Named}
 use Rattle.judge.specs.Judged.{Framed, lineBytes, nameAt}
 

@@ -12,10 +12,10 @@ use Rattle.frames.specs.Frames.{Frame, relocation}
 use Rattle.ast.specs.Job.{lastMap}
 use Rattle.ast.specs.declared.MapDecl.{MapDecl}
 use Rattle.object.specs.Read.{bytesAt, mapsIn}
-use Rattle.judge.specs.Checked.{Stage}
-use Rattle.judge.specs.Names.{Finds, foundOf}
+use Rattle.refusals.specs.Checked.{Stage}
+use Rattle.lookup.specs.Names.{Finds, foundOf}
 use Rattle.judge.specs.Judged.{Framed, lineBytes, relocationFrameOf, Held}
-use Rattle.judge.specs.declared.Found.{Found}
+use Rattle.lookup.specs.declared.Found.{Found}
 use Rattle.judge.proofs.Pieces.{middle, rest}
 
 pub record Reading (text : List ℕ) (at end : ℕ) : Type 0 where

@@ -27,52 +27,20 @@ use Rattle.object.specs.Read.{bytesAt, nameIn, mapsIn, entryIn, frameCode}
 use Rattle.object.specs.declared.Entry.{Entry}
 use Rattle.object.specs.declared.Entry.the-variants as entry
 use Rattle.object.proofs.Read.{count-maps}
-use Rattle.judge.specs.Checked.{Stage, Step, went, stopped, takeBytes, onLast, withCode, withRelocation, advance}
-use Rattle.judge.specs.Refusal.{numberOf, lineOf}
-use Rattle.judge.specs.Names.{Names, foundOf}
+use Rattle.refusals.specs.Checked.{Stage, Step, went, stopped, takeBytes, onLast, withCode, withRelocation, advance}
+use Rattle.refusals.specs.Refusal.{numberOf, lineOf}
+use Rattle.lookup.specs.Names.{Names, foundOf}
 use Rattle.judge.specs.Judged.{Agrees, Held, Judged, lineBytes, declarationFrame}
-use Rattle.judge.specs.declared.Refusal.{Refusal}
-use Rattle.judge.specs.declared.Refusal.the-variants.{TooLong, BadLine, BadFrame, Misplaced, BadText, OverLimit, UnknownMap, NoRoom}
-use Rattle.judge.specs.declared.Found.{Found}
-use Rattle.judge.specs.declared.Found.the-variants.{At, Nothing}
+use Rattle.refusals.specs.declared.Refusal.{Refusal}
+use Rattle.refusals.specs.declared.Refusal.the-variants.{TooLong, BadLine, BadFrame, Misplaced, BadText, OverLimit, UnknownMap, NoRoom}
+use Rattle.lookup.specs.declared.Found.{Found}
+use Rattle.lookup.specs.declared.Found.the-variants.{At, Nothing}
 use Rattle.judge.specs.declared.Counts.{Counts}
 use Rattle.judge.specs.declared.Declaration.the-variants as declaration
 use Rattle.judge.specs.declared.Verdict.{Verdict}
 use Rattle.judge.specs.declared.Verdict.the-variants.{Declares, Code, Reloc, Refused}
-use Rattle.judge.proofs.Refusal.number.Kinds as refusal-number-kinds
-use Rattle.judge.proofs.Refusal.number.Reads as refusal-number
-use Rattle.judge.proofs.Refusal.line.Kinds as refusal-line-kinds
-use Rattle.judge.proofs.Refusal.line.Reads as refusal-line
-use Rattle.judge.proofs.Refusal.needed.Kinds as refusal-needed-kinds
-use Rattle.judge.proofs.Refusal.needed.Reads as refusal-needed
-use Rattle.judge.proofs.find_map.Kinds as find-map-kinds
-use Rattle.judge.proofs.find_map.Reads as find-map
 use Rattle.judge.proofs.judge_frame.Kinds as judge-frame-kinds
 use Rattle.judge.proofs.judge_frame.Reads as judge-frame
-
-refusal-number-single : OneResult refusal-number-kinds.ps refusal-number-kinds.r refusal-number.Post
-refusal-number-single κs a z z′ e e′ p p′ = p ∙ sym p′
-
-refusal-line-single : OneResult refusal-line-kinds.ps refusal-line-kinds.r refusal-line.Post
-refusal-line-single κs a z z′ e e′ p p′ = p ∙ sym p′
-
-refusal-needed-single : OneResult refusal-needed-kinds.ps refusal-needed-kinds.r refusal-needed.Post
-refusal-needed-single κs a z z′ e e′ p p′ = p ∙ sym p′
-
--- ---- a lookup
-
-found-once : (r r′ : Found) → foundOf r ≡ foundOf r′ → r ≡ r′
-found-once (At i) (At j) e = cc
-found-once (At i) Nothing e = cc
-found-once Nothing (At j) e = cc
-found-once Nothing Nothing e = refl
-
--- the promise is about every list of declarations that is long enough, and one is as good as another
-find-map-single : OneResult find-map-kinds.ps find-map-kinds.r find-map.Post
-find-map-single κs a z z′ e e′ p p′ =
-    let ds = replicate (a .1 .1 .1 .0) noMap in
-    let l = length-replicate (a .1 .1 .1 .0) noMap in
-    found-once z z′ (p .0 ds (omega arith) ∙ sym (p′ .0 ds (omega arith)))
 
 -- ---- a verdict
 

@@ -17,7 +17,7 @@ use Rattle.text.specs.Utf8.{isText}
 use Rattle.ast.specs.Job.{Map, lastFrom, lastMap}
 use Rattle.lines.specs.Lines.{Line, lines, frameBytes}
 use Rattle.frames.specs.Frames.{Frame, licence, mapDecl, program, code, relocation, frameOf}
-use Rattle.judge.specs.Checked.{Stage, empty, Reason, reason, first, long, declares, reasons, advance, Step, went, stopped, takeFrame, takeBytes, takeLine, Checked, faulty, takeLines, checked}
+use Rattle.refusals.specs.Checked.{Stage, empty, Reason, reason, first, long, declares, reasons, advance, Step, went, stopped, takeFrame, takeBytes, takeLine, Checked, faulty, takeLines, checked}
 use Rattle.judge.specs.Unknown.{stageAfter, Unnamed, Asks, Unknown}
 use Rattle.judge.proofs.Judge.{stops, declared-none}
 

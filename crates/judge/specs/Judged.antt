@@ -12,8 +12,8 @@ use Rattle.ast.specs.declared.MapDecl.{MapDecl}
 use Rattle.octets.specs.Octets.{value}
 use Rattle.object.specs.Read.{nameIn, mapsIn, entryIn, frameCode}
 use Rattle.object.specs.Kept.{Named, ResolvedEntry}
-use Rattle.judge.specs.Checked.{Stage, takeBytes, went, stopped, advance}
-use Rattle.judge.specs.Refusal.{numberOf, lineOf}
+use Rattle.refusals.specs.Checked.{Stage, takeBytes, went, stopped, advance}
+use Rattle.refusals.specs.Refusal.{numberOf, lineOf}
 use Rattle.judge.specs.declared.Counts.{Counts}
 use Rattle.judge.specs.declared.Declaration.{Declaration}
 use Rattle.judge.specs.declared.Declaration.the-variants as declaration

@@ -11,7 +11,7 @@ use Rattle.text.specs.Utf8.{isText}
 use Rattle.ast.specs.Job.{Map, lastMap}
 use Rattle.lines.specs.Lines.{Line, lines, frameBytes}
 use Rattle.frames.specs.Frames.{relocation, frameOf}
-use Rattle.judge.specs.Checked.{Stage, empty, Step, went, stopped, takeLine}
+use Rattle.refusals.specs.Checked.{Stage, empty, Step, went, stopped, takeLine}
 
 -- what comes after a step that went on, and none after one that stopped
 abbrev pub afterStep : Step → (Stage → Option Stage) → Option Stage

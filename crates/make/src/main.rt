@@ -1,9 +1,9 @@
 // The program `make`: a job on standard input, its object on standard output, or the line `refused N line L`. It is thin: all that it
 // decides is decided by `maker::make`. A job of more than 65,535 bytes fills the room and is refused by its length.
-use judge::Refusal;
 use libc::STDIN_FILENO;
 use libc::STDOUT_FILENO;
 use maker::Making;
+use refusals::Refusal;
 
 // The one line that a refused job gets.
 fn say_refused(refusal: Refusal) {

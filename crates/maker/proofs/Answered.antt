@@ -8,7 +8,7 @@ use borrow.Author.Tests.{le-leb, lt-leb}
 use borrow.Rule.Slice.PartMut.{putMid}
 use Rattle.ast.specs.Job.{Job}
 use Rattle.object.specs.Object as whole
-use Rattle.judge.specs.Checked.{Checked, checked, accepted, faulty}
+use Rattle.refusals.specs.Checked.{Checked, checked, accepted, faulty}
 use Rattle.job.specs.Answer.{Answer, made, refused, fitted, answer, outputAfter}
 use Rattle.maker.specs.Made.{Outcome, object, refusal, outcome}
 

@@ -12,7 +12,7 @@ use lib.Dec.{leb}
 use borrow.Author.Tests.{leb-true}
 use Rattle.ast.specs.Job.{Job}
 use Rattle.object.specs.Object as whole
-use Rattle.judge.specs.Checked.{Checked, checked, accepted, faulty}
+use Rattle.refusals.specs.Checked.{Checked, checked, accepted, faulty}
 use Rattle.job.specs.Answer.{Answer, made, refused, fitted, answer, outputAfter}
 use Rattle.maker.specs.Made.{Outcome, object, refusal, outcome}
 use Rattle.maker.proofs.Answered.{answer-accepted}

@@ -10,10 +10,10 @@ use lib.ListN.{length}
 use Rattle.octets.proofs.Lists.{All}
 use Rattle.lines.specs.Lines.{Line, lines, frameBytes}
 use Rattle.frames.specs.Frames.{Frame, licence, mapDecl, program, code, relocation, frameOf}
-use Rattle.judge.specs.Checked.{Stage, Reason, first, reasons, Step, went, stopped, takeFrame, takeBytes, takeLine, takeLines, advance, empty, Checked, accepted, faulty, checked}
-use Rattle.judge.specs.Refusal.{numberOf, neededOf}
-use Rattle.judge.specs.declared.Refusal.{Refusal}
-use Rattle.judge.specs.declared.Refusal.the-variants.{TooLong, BadLine, BadFrame, Misplaced, BadText, OverLimit, UnknownMap, NoRoom}
+use Rattle.refusals.specs.Checked.{Stage, Reason, first, reasons, Step, went, stopped, takeFrame, takeBytes, takeLine, takeLines, advance, empty, Checked, accepted, faulty, checked}
+use Rattle.refusals.specs.Refusal.{numberOf, neededOf}
+use Rattle.refusals.specs.declared.Refusal.{Refusal}
+use Rattle.refusals.specs.declared.Refusal.the-variants.{TooLong, BadLine, BadFrame, Misplaced, BadText, OverLimit, UnknownMap, NoRoom}
 
 abbrev LowOption : Option ℕ → Type 0
 LowOption none = Unit

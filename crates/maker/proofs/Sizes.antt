@@ -33,8 +33,8 @@ use Rattle.contents.proofs.Slots.{licence-length}
 use Rattle.symbols.specs.Rows.{strtabOf}
 use Rattle.headers.specs.Names.{sectionNames}
 use Rattle.headers.specs.Headers.{headersBytes}
-use Rattle.types.specs.Section.{roomsOf}
-use Rattle.types.proofs.Decls.{rooms-size}
+use Rattle.members.specs.Section.{roomsOf}
+use Rattle.spans.proofs.Decls.{rooms-size}
 use Rattle.measure.specs.declared.Sizes.{Sizes}
 use Rattle.measure.specs.declared.Measured.{Measured}
 use Rattle.measure.specs.Measured.{SizesOf, Small, sectionsOf, tableSections, rowsOf, rowsFrom, measuredOf}

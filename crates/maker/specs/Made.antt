@@ -1,7 +1,7 @@
 -- What `make` answers, in the words of the definitions: the object itself stands in the output, and the answer has its length.
 use Prim.Native.Nat.{ℕ}
 use lib.ListN.{length}
-use Rattle.judge.specs.Refusal.{numberOf, lineOf, neededOf}
+use Rattle.refusals.specs.Refusal.{numberOf, lineOf, neededOf}
 use Rattle.job.specs.Answer.{Answer, made, refused}
 use Rattle.maker.specs.declared.Making.{Making}
 use Rattle.maker.specs.declared.Making.the-variants.{Made, Refused}

@@ -14,10 +14,10 @@ ghost use Rattle.btf.specs.Maps.{btfTypes};
 ghost use Rattle.object.specs.Read.{declaredMaps};
 use btf::BtfBuilder;
 use job::Parsing;
-use judge::Refusal;
 use measure::Measured;
 use measure::Sizes;
 use object::BpfObject;
+use refusals::Refusal;
 
 // What `make` is to write: the sizes of the sections, and how many bytes of `.BTF` its types take.
 struct Weighed {
@@ -36,8 +36,8 @@ fn weigh(text: &[u8], object: BpfObject) -> Weighed
     let count = object.map_count;
     let declared = object.license;
     let license = contents::license_len(declared);
-    let btf = types::btf_size(text, maps, &object.map_at, &object.map_len, count);
-    let room = types::maps_size(maps, count);
+    let btf = spans::btf_size(text, maps, &object.map_at, &object.map_len, count);
+    let room = spans::maps_size(maps, count);
     let strtab = symbols::strtab_size(text, object);
     Weighed {
         sizes: Sizes {

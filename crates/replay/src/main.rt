@@ -2,9 +2,9 @@
 // printed. An accepted job is tried in the room of 65,536 bytes, in just as much as its object takes, with one byte less and with none: the
 // last two are refused 8 with the length needed. Beyond the object, and after a refusal, the output is as it was. A record is four numbers of four bytes (length of the job, number of the refusal or 0, its line, length of the object), then
 // the job, then the object.
-use judge::Refusal;
 use libc::STDOUT_FILENO;
 use maker::Making;
+use refusals::Refusal;
 
 // What one record showed.
 enum Shown {

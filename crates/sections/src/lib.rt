@@ -15,7 +15,7 @@ ghost use Rattle.sections.specs.Pieces.{bare, programPieces, mapPieces, 
 ghost use Rattle.btf.specs.Btf.{btfBytes, addTypes, start};
 ghost use Rattle.btf.specs.Maps.{btfTypes};
 ghost use Rattle.named.specs.There.{MapsThere};
-ghost use Rattle.types.specs.Section.{theMaps};
+ghost use Rattle.members.specs.Section.{theMaps};
 ghost use Rattle.object.specs.Read.{declaredMaps};
 use ast::MapDecl;
 use elf::Section;

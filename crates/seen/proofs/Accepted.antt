@@ -16,9 +16,9 @@ use Rattle.elf.proofs.Strings.{AllStand, all-stand, stand-length, size-append, 
 use Rattle.elf.proofs.Places.{align-near}
 use Rattle.object.specs.Object.{declaredSections, symbols, tableSection, object}
 use Rattle.object.proofs.Counts.{count-symbols}
-use Rattle.judge.specs.Checked.{Checked, checked, accepted, faulty}
+use Rattle.refusals.specs.Checked.{Checked, checked, accepted, faulty}
 use Rattle.job.specs.Answer.{Answer, made, refused, fitted, answer}
-use Rattle.judge.proofs.Within.{Within, accepted-within}
+use Rattle.refusals.proofs.Within.{Within, accepted-within}
 use Rattle.reading.specs.Reading.{reading, reads}
 use Rattle.seen.specs.Seen.{seen}
 use Rattle.seen.proofs.Sections.{Sound, SoundFile, reading-file}

@@ -20,8 +20,8 @@ use Rattle.btf.specs.Maps.{mapSize, mapTypes, btfTypes}
 use Rattle.btf.proofs.MapTypes.{FitMap, map-size, maps-fit, btf-fits, btf-weighs, btf-short}
 use Rattle.object.specs.Object.{plain, mapSections, relSections, past, programSections, pastAll, mapSymbols, programSymbols, firstProgram, symbols, declaredSections, tableSection, symbolSection}
 use Rattle.object.proofs.Counts.{last-below, past-near, past-all-near, first-near, symtab-number, count-symbols, length-relocations}
-use Rattle.judge.specs.Checked.{declares}
-use Rattle.judge.proofs.Within.{MapWithin, RelocationWithin, ProgramWithin, Within, relocationsIn, codeIn}
+use Rattle.refusals.specs.Checked.{declares}
+use Rattle.refusals.proofs.Within.{MapWithin, RelocationWithin, ProgramWithin, Within, relocationsIn, codeIn}
 use Rattle.reading.specs.Maps.{readBtf}
 use Rattle.seen.proofs.Sections.{Sound}
 use Rattle.seen.proofs.Symbols.{FitSymbol}

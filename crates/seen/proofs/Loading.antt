@@ -18,7 +18,7 @@ use Rattle.elf.proofs.Rows.{length-symbols}
 use Rattle.btf.specs.Btf.{btfBytes}
 use Rattle.btf.specs.Maps.{mapSize, btfTypes}
 use Rattle.object.specs.Object.{plain, licenseSection, mapSections, programSections, pastAll, firstProgram, symbolSection, tableSection, mapSymbols, programSymbols, symbols, declaredSections}
-use Rattle.judge.proofs.Within.{Within, relocationsIn}
+use Rattle.refusals.proofs.Within.{Within, relocationsIn}
 use Rattle.reading.specs.Steps.{keep}
 use Rattle.reading.specs.Sections.{Named, isPlain}
 use Rattle.reading.specs.Programs.{isKind, isCode, isFunction, strings, readLicence, readSymbols, readCodes}

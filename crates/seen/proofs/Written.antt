@@ -5,7 +5,7 @@ use mathlib.Core.List.{List}
 use Prim.Native.Nat.{ℕ}
 use lib.ListN.{take}
 use Rattle.ast.specs.Job.{Job}
-use Rattle.judge.specs.Checked.{checked, accepted}
+use Rattle.refusals.specs.Checked.{checked, accepted}
 use Rattle.reading.specs.Reading.{reading, reads}
 use Rattle.maker.specs.Made.{object}
 use Rattle.maker.proofs.Demands.{Met, accepted-writes}

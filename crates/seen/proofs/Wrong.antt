@@ -8,7 +8,7 @@ use Rattle.octets.specs.Octets.{equal}
 use Rattle.octets.proofs.Lists.{All}
 use Rattle.ast.specs.Job.{Job}
 use Rattle.object.specs.Object.{object, declaredSections, symbols}
-use Rattle.judge.specs.Checked.{checked, accepted}
+use Rattle.refusals.specs.Checked.{checked, accepted}
 use Rattle.reading.specs.Reading.{Read, reading, reads}
 use Rattle.seen.specs.Seen.{seen}
 use Rattle.seen.specs.Wrong.{Writer, text, job, objectOf, lookedUp, laterLeftZero, firstOfEqualNames, writtenNames, absentAsZero, offsetOff, mapsSwapped, codeCut, oneObject, shown}

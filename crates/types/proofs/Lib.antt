@@ -1,12 +1,3 @@
-pub mod Stages
-pub mod Attributes
-pub mod MemberRows
-pub mod OneMap
-pub mod TypeRows
-pub mod Decls
 pub mod Ints
-pub mod AllTypes
-pub mod StringRows
-pub mod Sizes
 pub mod Whole
 pub mod Single

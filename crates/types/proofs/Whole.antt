@@ -12,10 +12,10 @@ use Rattle.btf.specs.Btf.{start, addTypes, finished, btfBytes}
 use Rattle.btf.specs.Maps.{btfTypes}
 use Rattle.btf.specs.Builder.{bytesAt}
 use Rattle.btf.proofs.Builder.{types-built}
-use Rattle.types.specs.Section.{headerBytes}
-use Rattle.types.specs.Strings.{allStrings}
-use Rattle.types.proofs.StringRows.{strings-are}
-use Rattle.types.proofs.AllTypes.{over-all}
+use Rattle.members.specs.Section.{headerBytes}
+use Rattle.members.specs.Strings.{allStrings}
+use Rattle.spans.proofs.StringRows.{strings-are}
+use Rattle.spans.proofs.AllTypes.{over-all}
 
 -- a section of the types `t` and the strings `s`
 abbrev pub section : List ℕ → List ℕ → List ℕ

@@ -4,7 +4,7 @@ use Prim.Native.Nat.{ℕ, suc}
 use native.Mathlib.Numerals.{add-one}
 use native.Mathlib.Omega.{arith}
 use borrow.Author.Needs.{needs}
-use Rattle.judge.specs.Checked.{faulty}
+use Rattle.refusals.specs.Checked.{faulty}
 use Rattle.job.specs.declared.LineRead.the-variants.{Is}
 use Rattle.job.specs.Walked.{LineSays}
 use Rattle.job.proofs.Lines.{saying}

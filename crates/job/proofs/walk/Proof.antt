@@ -11,12 +11,12 @@ use Rattle.object.specs.declared.Adding.the-variants.{Done, Full}
 use Rattle.object.specs.declared.BpfObject.{BpfObject}
 use Rattle.object.specs.declared.Program.{Program}
 use Rattle.object.specs.Tables.{Sound, done}
-use Rattle.judge.specs.Checked.{takeLines, empty, faulty}
-use Rattle.judge.specs.Refusal.{numberOf, lineOf}
+use Rattle.refusals.specs.Checked.{takeLines, empty, faulty}
+use Rattle.refusals.specs.Refusal.{numberOf, lineOf}
 use Rattle.judge.specs.Judged.{Agrees}
 use Rattle.judge.specs.declared.Counts.{Counts}
 use Rattle.judge.specs.declared.Verdict.{Verdict}
-use Rattle.judge.specs.declared.Refusal.{Refusal}
+use Rattle.refusals.specs.declared.Refusal.{Refusal}
 use Rattle.job.specs.declared.Parsed.{Parsed}
 use Rattle.job.specs.declared.Parsing.the-variants.{Accepted}
 use Rattle.job.specs.Walked.{Saying, countsOf, closedOf, closedObject, closedAs, finishedOf, stageIn, refusedWith, parsedIn, ParsedKept}

@@ -8,7 +8,7 @@ use borrow.Author.Needs.{needs}
 use lib.ListN.{length}
 use Rattle.frames.specs.Frames.{Frame, code, frameOf}
 use Rattle.object.specs.Read.{frameCode}
-use Rattle.judge.specs.Checked.{went, advance}
+use Rattle.refusals.specs.Checked.{went, advance}
 use Rattle.judge.proofs.Judge.{stops, goes, code-late, code-reasons}
 use Rattle.judge.proofs.judge_code.Statement.{statement}
 use Rattle.judge.proofs.judge_code.Tie as tie

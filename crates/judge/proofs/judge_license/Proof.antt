@@ -10,10 +10,10 @@ use borrow.Author.Needs.{needs}
 use borrow.Author.Tests.{not-false, ltb-false}
 use Rattle.text.specs.Utf8.{isText, hasZero}
 use Rattle.frames.specs.Frames.{licence}
-use Rattle.judge.specs.Checked.{went, advance, long}
-use Rattle.judge.specs.Flaws.{stringFlaw, faultOf}
+use Rattle.refusals.specs.Checked.{went, advance, long}
+use Rattle.flaws.specs.Flaws.{stringFlaw, faultOf}
 use Rattle.judge.specs.Judged.{lineBytes}
-use Rattle.judge.specs.declared.Flaw.{Flaw}
+use Rattle.flaws.specs.declared.Flaw.{Flaw}
 use Rattle.judge.proofs.Pieces.{Piece, rest, part-hex, part-bytes, piece-name, piece-named}
 use Rattle.judge.proofs.Judge.{stops, goes, judged-fault, judged-free, Clean, clean, left-false, licence-late, licence-reasons}
 use Rattle.judge.proofs.judge_license.Statement.{statement}

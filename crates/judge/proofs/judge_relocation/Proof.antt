@@ -16,14 +16,14 @@ use Rattle.text.specs.Utf8.{isText}
 use Rattle.frames.specs.Frames.{Frame, relocation, frameOf}
 use Rattle.ast.specs.Job.{lastMap}
 use Rattle.object.specs.Read.{bytesAt, mapsIn, frameCode}
-use Rattle.judge.specs.Checked.{Stage, Reason, reason, went, advance, long, first, reasons, declares}
-use Rattle.judge.specs.Flaws.{nameFlaw, faultOf}
-use Rattle.judge.specs.Names.{Finds, FoundIn, foundOf}
+use Rattle.refusals.specs.Checked.{Stage, Reason, reason, went, advance, long, first, reasons, declares}
+use Rattle.flaws.specs.Flaws.{nameFlaw, faultOf}
+use Rattle.lookup.specs.Names.{Finds, FoundIn, foundOf}
 use Rattle.object.specs.Kept.{Resolved}
 use Rattle.judge.specs.Judged.{lineBytes, relocationFrameOf, Agrees, Held}
-use Rattle.judge.specs.declared.Flaw.{Flaw}
-use Rattle.judge.specs.declared.Found.{Found}
-use Rattle.judge.proofs.Flaws.{faultNumber}
+use Rattle.flaws.specs.declared.Flaw.{Flaw}
+use Rattle.lookup.specs.declared.Found.{Found}
+use Rattle.flaws.proofs.Flaws.{faultNumber}
 use Rattle.judge.proofs.Pieces.{Piece, middle, rest, part-hex, part-bytes}
 use Rattle.judge.proofs.Judge.{stops, goes, judged-fault, judged-free, Clean, clean, relocation-late, relocation-reasons, declared-none, declared-some}
 use Rattle.judge.proofs.Relocation.{reading, looked}

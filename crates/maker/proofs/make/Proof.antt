@@ -7,8 +7,8 @@ use lib.ListN.{length}
 use borrow.Author.Needs.{needs}
 use Rattle.object.specs.Read.{jobIn}
 use Rattle.object.specs.Object as whole
-use Rattle.judge.specs.Checked.{checked, accepted, faulty}
-use Rattle.judge.specs.Refusal.{numberOf, lineOf}
+use Rattle.refusals.specs.Checked.{checked, accepted, faulty}
+use Rattle.refusals.specs.Refusal.{numberOf, lineOf}
 use Rattle.job.specs.Answer.{Answer, outputAfter}
 use Rattle.job.specs.Walked.{parsingIn, ParsingKept}
 use Rattle.job.specs.declared.Parsing.{Parsing}

@@ -11,7 +11,7 @@ use Rattle.sections.specs.Pieces.{bare}
 use Rattle.sections.proofs.Laid.{lay, lay-end, lay-part}
 use Rattle.btf.specs.Btf.{btfBytes}
 use Rattle.btf.specs.Maps.{btfTypes}
-use Rattle.types.specs.Section.{theMaps}
+use Rattle.members.specs.Section.{theMaps}
 use Rattle.sections.proofs.lay_btf.Statement.{statement}
 use Rattle.sections.proofs.lay_btf.Tie as tie
 

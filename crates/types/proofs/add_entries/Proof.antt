@@ -4,8 +4,8 @@ use native.Mathlib.Omega.{arith}
 use lib.ListN.{getD}
 use borrow.Author.Needs.{needs}
 use Rattle.object.specs.Tables.{noMap}
-use Rattle.types.proofs.OneMap.{decl-room}
-use Rattle.types.proofs.Decls.{EntriesTurn, entries-start, entry-room, entries-on, entries-done}
+use Rattle.members.proofs.OneMap.{decl-room}
+use Rattle.spans.proofs.Decls.{EntriesTurn, entries-start, entry-room, entries-on, entries-done}
 use Rattle.types.proofs.add_entries.Statement.{statement}
 use Rattle.types.proofs.add_entries.Tie as tie
 

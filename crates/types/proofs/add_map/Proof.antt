@@ -7,8 +7,8 @@ use borrow.Author.Needs.{needs}
 use Rattle.octets.proofs.Laws.{over-length}
 use Rattle.object.specs.Read.{nameIn}
 use Rattle.btf.specs.declared.BtfBuilder.{BtfBuilder}
-use Rattle.types.specs.Members.{mapPieces, structEnd}
-use Rattle.types.proofs.OneMap.{map-length, struct-end, map-done, map-left}
+use Rattle.members.specs.Members.{mapPieces, structEnd}
+use Rattle.members.proofs.OneMap.{map-length, struct-end, map-done, map-left}
 use Rattle.types.proofs.add_map.Statement.{statement}
 use Rattle.types.proofs.add_map.Tie as tie
 

@@ -2,7 +2,7 @@
 use Prim.Native.Nat.{_-_}
 use native.Mathlib.Omega.{arith}
 use borrow.Author.Needs.{needs}
-use Rattle.types.proofs.TypeRows.{TypesTurn, types-start, types-room, types-on, types-done}
+use Rattle.spans.proofs.TypeRows.{TypesTurn, types-start, types-room, types-on, types-done}
 use Rattle.types.proofs.add_maps.Statement.{statement}
 use Rattle.types.proofs.add_maps.Tie as tie
 

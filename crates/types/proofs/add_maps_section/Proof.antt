@@ -11,8 +11,8 @@ use Rattle.octets.proofs.Filling.{over-two}
 use Rattle.btf.specs.declared.BtfBuilder.{BtfBuilder}
 use Rattle.btf.specs.Btf.{info}
 use Rattle.btf.specs.Builder.{words}
-use Rattle.types.specs.Section.{roomsOf, entriesBytes}
-use Rattle.types.proofs.Decls.{head-left}
+use Rattle.members.specs.Section.{roomsOf, entriesBytes}
+use Rattle.spans.proofs.Decls.{head-left}
 use Rattle.types.proofs.add_maps_section.Statement.{statement}
 use Rattle.types.proofs.add_maps_section.Tie as tie
 

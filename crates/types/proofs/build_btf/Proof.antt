@@ -9,8 +9,8 @@ use Rattle.ast.specs.Job.{Map}
 use Rattle.btf.specs.Maps.{btfTypes}
 use Rattle.btf.specs.Builder.{bytesAt}
 use Rattle.btf.proofs.Builder.{types-built}
-use Rattle.types.specs.Section.{theMaps}
-use Rattle.types.specs.Strings.{allStrings}
+use Rattle.members.specs.Section.{theMaps}
+use Rattle.members.specs.Strings.{allStrings}
 use Rattle.types.proofs.Whole.{section, section-is, parts-long, head-long, types-part, strings-part, section-left}
 use Rattle.types.proofs.build_btf.Statement.{statement}
 use Rattle.types.proofs.build_btf.Tie as tie

@@ -1,6 +1,6 @@
 -- `types::put_types` meets its contract: three pieces. Assumes nothing.
 use borrow.Author.Needs.{needs}
-use Rattle.types.proofs.AllTypes.{ints-room, maps-room, section-room, types-left}
+use Rattle.spans.proofs.AllTypes.{ints-room, maps-room, section-room, types-left}
 use Rattle.types.proofs.put_types.Statement.{statement}
 use Rattle.types.proofs.put_types.Tie as tie
 

@@ -1,7 +1,7 @@
 -- `types::var_id` meets its contract. Assumes nothing.
 use native.Mathlib.Omega.{arith}
 use borrow.Author.Needs.{needs}
-use Rattle.types.proofs.Decls.{id-is}
+use Rattle.spans.proofs.Decls.{id-is}
 use Rattle.types.proofs.var_id.Statement.{statement}
 use Rattle.types.proofs.var_id.Tie as tie
 

@@ -1,0 +1,5 @@
+pub mod Stages
+pub mod Attributes
+pub mod MemberRows
+pub mod OneMap
+pub mod Single

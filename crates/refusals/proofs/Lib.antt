@@ -1,0 +1,3 @@
+pub mod WithinFrames
+pub mod Within
+pub mod Single
