@@ -9,6 +9,8 @@ use Rattle.text.proofs.written_len.Kinds as written-len-kinds
 use Rattle.text.proofs.written_len.Reads as written-len
 use Rattle.text.proofs.sanitize_ident.Kinds as sanitize-ident-kinds
 use Rattle.text.proofs.sanitize_ident.Reads as sanitize-ident
+use Rattle.text.proofs.same_written.Kinds as same-written-kinds
+use Rattle.text.proofs.same_written.Reads as same-written
 
 is-text-single : OneResult is-text-kinds.ps is-text-kinds.r is-text.Post
 is-text-single κs a z z′ e e′ p p′ = p ∙ sym p′
@@ -21,3 +23,6 @@ written-len-single κs a z z′ e e′ p p′ = p ∙ sym p′
 
 sanitize-ident-single : OneExit sanitize-ident-kinds.ps sanitize-ident-kinds.r sanitize-ident.Post (λ κs e. e .0 .now)
 sanitize-ident-single κs a z z′ e e′ p p′ = p ∙ sym p′
+
+same-written-single : OneResult same-written-kinds.ps same-written-kinds.r same-written.Post
+same-written-single κs a z z′ e e′ p p′ = p ∙ sym p′
