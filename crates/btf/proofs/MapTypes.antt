@@ -7,8 +7,8 @@ use native.Mathlib.Omega.{arith}
 use lib.ListN.{length, length-append}
 use Rattle.octets.specs.Octets.{ascii}
 use Rattle.octets.proofs.Lists.{All, all-append}
-use Rattle.text.specs.Written.{written}
-use Rattle.text.proofs.Names.{Clean, written-short, written-clean}
+use Rattle.written.specs.Written.{written}
+use Rattle.written.proofs.Names.{Clean, written-short, written-clean}
 use Rattle.ast.specs.Job.{Map}
 use Rattle.ast.specs.Numbers.{mapTypeNumber}
 use Rattle.ast.specs.declared.«Type».{«Type» as MemberType}

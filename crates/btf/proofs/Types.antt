@@ -6,7 +6,7 @@ use Prim.Native.Nat.{ℕ, suc, _+_, _*_, _^_, _≤_, _<_}
 use native.Mathlib.Omega.{arith}
 use lib.ListN.{length, length-append, length-map}
 use Rattle.octets.proofs.Lists.{All}
-use Rattle.text.proofs.Names.{Clean}
+use Rattle.written.proofs.Names.{Clean}
 use Rattle.elf.specs.Strings.{addStrings, emptyTable}
 use Rattle.elf.proofs.Strings.{all-stand, stand-length, table-grows, sizeOf, table-length}
 use Rattle.btf.specs.Btf.{Member, Var, BtfType, int, ptr, array, struct, var, datasec, typeNames, memberBytes, varBytes, typeBytes, Builder, addType, addTypes, start, finished, btfBytes}

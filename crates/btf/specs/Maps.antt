@@ -3,7 +3,7 @@
 use mathlib.Core.List.{List, [], _∷_, _++_}
 use Prim.Native.Nat.{ℕ, _+_, _*_}
 use Rattle.octets.specs.Octets.{ascii}
-use Rattle.text.specs.Written.{written}
+use Rattle.written.specs.Written.{written}
 use Rattle.ast.specs.Job.{Map}
 use Rattle.ast.specs.Numbers.{mapTypeNumber}
 use Rattle.btf.specs.Btf.{BtfType, int, ptr, array, struct, var, datasec, Member, Var}

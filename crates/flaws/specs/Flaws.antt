@@ -4,7 +4,7 @@ use mathlib.Core.List.{List}
 use Prim.Native.Nat.{ℕ}
 use lib.ListN.{length}
 use lib.Dec.{eqb}
-use Rattle.text.specs.Utf8.{isText, hasZero}
+use Rattle.utf8.specs.Utf8.{isText, hasZero}
 use Rattle.refusals.specs.Checked.{long}
 use Rattle.flaws.specs.declared.Flaw.{Flaw}
 use Rattle.flaws.specs.declared.Flaw.the-variants.{Good, NotText, TooLong}

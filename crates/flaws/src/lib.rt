@@ -18,7 +18,7 @@ pub fn name_flaw(s: &[u8]) -> Flaw
     requires { ⌜ isHex (now s) ≡ true ⌝ }
     ensures { λ r. ⌜ r ≡ nameFlaw (bytesIn (now (s .entry))) ⌝ }
 {
-    if !text::is_text(s) {
+    if !utf8::is_text(s) {
         return Flaw::NotText;
     }
     if 128 < s.len() {
@@ -32,7 +32,7 @@ pub fn string_flaw(s: &[u8]) -> Flaw
     requires { ⌜ isHex (now s) ≡ true ⌝ }
     ensures { λ r. ⌜ r ≡ stringFlaw (bytesIn (now (s .entry))) ⌝ }
 {
-    if text::has_zero(s) {
+    if utf8::has_zero(s) {
         return Flaw::NotText;
     }
     name_flaw(s)

@@ -8,7 +8,7 @@ use native.Mathlib.Omega.{arith}
 use lib.ListN.{length}
 use lib.Dec.{leb, eqb}
 use borrow.Author.Tests.{lt-ltb, le-ltb, eq-eqb, ne-eqb}
-use Rattle.text.specs.Utf8.{isText, hasZero}
+use Rattle.utf8.specs.Utf8.{isText, hasZero}
 use Rattle.frames.specs.Frames.{Frame, licence, mapDecl, program, code, relocation, frameOf}
 use Rattle.ast.specs.Job.{lastMap}
 use Rattle.ast.specs.declared.MapType.{MapType}

@@ -9,7 +9,7 @@ use lib.Seq.{length-take-le}
 use borrow.Author.Tests.{ltb-false}
 use Rattle.lines.specs.Hex.{isHex, bytesIn}
 use Rattle.lines.proofs.Parts.{line-length, some-bytes, some-hex, last-bytes}
-use Rattle.text.specs.Utf8.{isText}
+use Rattle.utf8.specs.Utf8.{isText}
 use Rattle.object.specs.Read.{nameIn}
 use Rattle.refusals.specs.Checked.{long}
 use Rattle.object.specs.Kept.{Named}

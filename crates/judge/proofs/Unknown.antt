@@ -13,7 +13,7 @@ use borrow.Author.Tests.{ltb-false, le-ltb, leb-false, lt-leb, eqb-true, eqb-fal
 use Rattle.octets.specs.Octets.{equal, ascii}
 use Rattle.octets.proofs.Lists.{All}
 use Rattle.octets.proofs.Tests.{or-false-both, and-true-both}
-use Rattle.text.specs.Utf8.{isText}
+use Rattle.utf8.specs.Utf8.{isText}
 use Rattle.ast.specs.Job.{Map, lastFrom, lastMap}
 use Rattle.lines.specs.Lines.{Line, lines, frameBytes}
 use Rattle.frames.specs.Frames.{Frame, licence, mapDecl, program, code, relocation, frameOf}

@@ -7,7 +7,7 @@ use mathlib.Core.List.{List, [], _∷_, _++_}
 use Prim.Native.Nat.{ℕ, suc, _≤_, _<_}
 use lib.ListN.{length}
 use Rattle.octets.specs.Octets.{equal}
-use Rattle.text.specs.Utf8.{isText}
+use Rattle.utf8.specs.Utf8.{isText}
 use Rattle.ast.specs.Job.{Map, lastMap}
 use Rattle.lines.specs.Lines.{Line, lines, frameBytes}
 use Rattle.frames.specs.Frames.{relocation, frameOf}

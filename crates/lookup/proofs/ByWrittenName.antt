@@ -7,7 +7,7 @@ use Prim.Native.Nat.{ℕ}
 use native.Mathlib.Omega.{arith}
 use lib.Dec.{lit≤}
 use Rattle.octets.specs.Octets.{ascii}
-use Rattle.text.specs.Written.{written}
+use Rattle.written.specs.Written.{written}
 use Rattle.ast.specs.Job.{Map, lastMap}
 use Rattle.object.specs.Tables.{noMap}
 use Rattle.object.specs.Read.{mapsIn}

@@ -7,7 +7,7 @@ use native.Mathlib.Omega.{arith}
 use lib.ListN.{length, length-append}
 use Rattle.octets.specs.Over.{over}
 use Rattle.octets.proofs.Filling.{over-two}
-use Rattle.text.specs.Written.{written}
+use Rattle.written.specs.Written.{written}
 use Rattle.ast.specs.Job.{Map}
 use Rattle.ast.specs.declared.MapType.{MapType}
 use Rattle.ast.specs.declared.MapDecl.{MapDecl}

@@ -3,7 +3,7 @@ use mathlib.Core.List.{List, [], _∷_, _++_}
 use Prim.Native.Nat.{ℕ, _+_, _*_}
 use lib.ListN.{length, take}
 use Rattle.octets.specs.Octets.{le, cat}
-use Rattle.text.specs.Written.{written}
+use Rattle.written.specs.Written.{written}
 use Rattle.ast.specs.Job.{Map}
 use Rattle.ast.specs.declared.MapDecl.{MapDecl}
 use Rattle.ast.specs.declared.CountAttr.{CountAttr}

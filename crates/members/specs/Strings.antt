@@ -2,7 +2,7 @@
 use mathlib.Core.List.{List, [], _∷_, _++_}
 use Prim.Native.Nat.{ℕ}
 use Rattle.octets.specs.Octets.{ascii}
-use Rattle.text.specs.Written.{written}
+use Rattle.written.specs.Written.{written}
 use Rattle.ast.specs.Job.{Map}
 use Rattle.ast.specs.declared.TypeAttr.{TypeAttr}
 use Rattle.ast.specs.declared.TypeAttr.the-variants as type

@@ -10,8 +10,8 @@ use Rattle.octets.specs.Over.{over}
 use Rattle.octets.proofs.Laws.{over-taken}
 use Rattle.lines.specs.Hex.{isHex, bytesIn}
 use Rattle.lines.proofs.Bytes.{bytes-length}
-use Rattle.text.specs.Written.{written}
-use Rattle.text.proofs.Names.{written-short}
+use Rattle.written.specs.Written.{written}
+use Rattle.written.proofs.Names.{written-short}
 use Rattle.ast.specs.declared.Name.{Name}
 use Rattle.object.specs.Read.{nameIn}
 use Rattle.object.specs.Kept.{Named}

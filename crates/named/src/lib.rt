@@ -5,7 +5,7 @@ ghost use mathlib.Core.List.{[], _∷_, _++_};
 ghost use Prim.Native.Nat.{_+_, _≤_};
 ghost use lib.ListN.{length};
 ghost use Rattle.octets.specs.Over.{over};
-ghost use Rattle.text.specs.Written.{written};
+ghost use Rattle.written.specs.Written.{written};
 ghost use Rattle.object.specs.Read.{nameIn};
 ghost use Rattle.object.specs.Kept.{Named};
 use ast::Name;
@@ -32,7 +32,7 @@ pub fn written_size(text: &[u8], name: Name) -> usize
     let mut raw = [0u8; 64];
     let n = name.len as usize;
     put_name(&mut raw, 0, text, name);
-    text::written_len(&raw[0..n])
+    written::written_len(&raw[0..n])
 }
 
 // The written name with its zero byte, over what stands at `at`.
@@ -45,9 +45,9 @@ pub fn put_written(out: &mut [u8], at: usize, text: &[u8], name: Name) -> usize
     let mut bytes = [0u8; 64];
     let len = name.len as usize;
     put_name(&mut bytes, 0, text, name);
-    let m = text::written_len(&bytes[0..len]);
+    let m = written::written_len(&bytes[0..len]);
     let end = at + m;
-    text::sanitize_ident(&mut out[at..end], &bytes[0..len]);
+    written::sanitize_ident(&mut out[at..end], &bytes[0..len]);
     octets::clear(&mut out[end..end + 1]);
     end + 1
 }

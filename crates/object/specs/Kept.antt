@@ -7,7 +7,7 @@ use Prim.Native.Nat.{ℕ, _+_, _*_, _≤_, _<_}
 use lib.ListN.{length, take, drop, getD}
 use Rattle.lines.specs.Lines.{Line, frameBytes}
 use Rattle.lines.specs.Hex.{there, isHex}
-use Rattle.text.specs.Utf8.{isText}
+use Rattle.utf8.specs.Utf8.{isText}
 use Rattle.ast.specs.Job.{Map, lastMap}
 use Rattle.ast.specs.declared.Name.{Name}
 use Rattle.object.specs.declared.License.{License}

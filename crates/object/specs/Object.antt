@@ -4,7 +4,7 @@ use mathlib.Core.List.{List, [], _∷_, _++_, map}
 use Prim.Native.Nat.{ℕ, suc, _+_}
 use lib.ListN.{length}
 use Rattle.octets.specs.Octets.{zeros, ascii}
-use Rattle.text.specs.Written.{written}
+use Rattle.written.specs.Written.{written}
 use Rattle.ast.specs.Job.{Map, Relocation, Program, Job, lastMap}
 use Rattle.elf.specs.Strings.{addStrings, emptyTable}
 use Rattle.elf.specs.Elf.{Section, Symbol, file, symbolInfo, symbolsBytes, relBytes}

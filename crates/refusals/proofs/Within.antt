@@ -12,8 +12,8 @@ use borrow.Author.Tests.{ltb-false, leb-false, eqb-false, not-false}
 use Rattle.octets.proofs.Lists.{All, all-append}
 use Rattle.octets.proofs.Bytes.{Byte, Bytes}
 use Rattle.octets.proofs.Tests.{or-false-both}
-use Rattle.text.specs.Utf8.{hasZero, isText}
-use Rattle.text.proofs.Names.{Clean}
+use Rattle.utf8.specs.Utf8.{hasZero, isText}
+use Rattle.written.proofs.Names.{Clean}
 use Rattle.ast.specs.Job.{Map, Relocation, Program, Job}
 use Rattle.ast.specs.declared.CountAttr.the-variants as count
 use Rattle.lines.specs.Lines.{Line, lines, frameBytes}

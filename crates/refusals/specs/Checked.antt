@@ -6,7 +6,7 @@ use Prim.Native.Nat.{ℕ, suc, _+_}
 use lib.ListN.{length}
 use lib.Dec.{ltb, leb, eqb}
 use Rattle.octets.specs.Octets.{ascii}
-use Rattle.text.specs.Utf8.{isText, hasZero}
+use Rattle.utf8.specs.Utf8.{isText, hasZero}
 use Rattle.ast.specs.Job.{Map, Relocation, Program, Job, lastMap}
 use Rattle.lines.specs.Lines.{Line, lines, frameBytes}
 use Rattle.frames.specs.Frames.{Frame, licence, mapDecl, program, code, relocation, frameOf}

@@ -9,7 +9,7 @@ use lib.Dec.{eqb}
 use lib.ListN.{length, length-append, length-replicate}
 use Rattle.octets.specs.Octets.{ascii}
 use Rattle.octets.proofs.Lists.{All, all-append, all-weaken}
-use Rattle.text.proofs.Names.{Clean, written-short, written-clean}
+use Rattle.written.proofs.Names.{Clean, written-short, written-clean}
 use Rattle.ast.specs.Job.{Map, Relocation, Program, Job, lastMap}
 use Rattle.elf.specs.Elf.{Section, Symbol, after, endOf}
 use Rattle.elf.proofs.Strings.{sizeOf}

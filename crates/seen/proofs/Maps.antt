@@ -10,7 +10,7 @@ use lib.ListN.{length, getElem?, length-map}
 use borrow.Author.Tests.{le-leb, eq-eqb, ne-eqb}
 use Rattle.octets.specs.Octets.{ascii}
 use Rattle.octets.proofs.Lists.{All, get-add}
-use Rattle.text.specs.Written.{written}
+use Rattle.written.specs.Written.{written}
 use Rattle.ast.specs.Job.{Map}
 use Rattle.ast.specs.Numbers.{mapType, mapTypeNumber}
 use Rattle.ast.specs.declared.«Type».{«Type» as MemberType}

@@ -11,7 +11,7 @@ use borrow.Author.Tests.{eq-eqb, ne-eqb}
 use Rattle.octets.specs.Octets.{ascii}
 use Rattle.octets.proofs.Numbers.{value-le}
 use Rattle.octets.proofs.Lists.{All}
-use Rattle.text.specs.Written.{written}
+use Rattle.written.specs.Written.{written}
 use Rattle.ast.specs.Job.{Map, Relocation, Program, lastMap}
 use Rattle.elf.specs.Elf.{Section, symbolInfo, relBytes}
 use Rattle.object.specs.Object.{plain, past, pastAll, relSections, programSections, relocationBytes, programSymbols, mapSymbol}

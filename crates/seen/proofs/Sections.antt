@@ -11,7 +11,7 @@ use lib.ListN.{length, drop, getElem?, length-map}
 use borrow.Author.Tests.{le-leb}
 use Rattle.octets.proofs.Numbers.{value-le}
 use Rattle.octets.proofs.Lists.{All, all-weaken}
-use Rattle.text.proofs.Names.{Clean}
+use Rattle.written.proofs.Names.{Clean}
 use Rattle.elf.specs.Elf.{Section, place, after, endOf, headerBytes, file}
 use Rattle.elf.specs.Elf as elf
 use Rattle.elf.proofs.Strings.{AllStand, stand-length, stands-inside}

@@ -5,8 +5,8 @@ use mathlib.Core.List.{List, [], _∷_, _++_}
 use Prim.Native.Nat.{ℕ}
 use lib.Dec.{eqb}
 use Rattle.octets.proofs.Tests.{or-false-both}
-use Rattle.text.specs.Utf8.{hasZero}
-use Rattle.text.proofs.Names.{Clean}
+use Rattle.utf8.specs.Utf8.{hasZero}
+use Rattle.written.proofs.Names.{Clean}
 use Rattle.elf.proofs.Strings.{Stands}
 use Rattle.reading.specs.Steps.{toZero, textAt}
 

@@ -7,7 +7,7 @@ use native.Mathlib.Omega.{arith}
 use lib.ListN.{length}
 use Rattle.octets.proofs.Numbers.{value-le}
 use Rattle.octets.proofs.Lists.{All}
-use Rattle.text.proofs.Names.{Clean}
+use Rattle.written.proofs.Names.{Clean}
 use Rattle.elf.specs.Elf.{Symbol, symbolsBytes}
 use Rattle.elf.proofs.Strings.{AllStand, stands-inside}
 use Rattle.reading.specs.Programs.{symbolsOf}

@@ -11,7 +11,7 @@ use borrow.Author.Tests.{ne-eqb}
 use Rattle.octets.specs.Octets.{le, value}
 use Rattle.octets.proofs.Numbers.{value-le}
 use Rattle.octets.proofs.Lists.{All}
-use Rattle.text.proofs.Names.{Clean}
+use Rattle.written.proofs.Names.{Clean}
 use Rattle.elf.specs.Strings.{addStrings, emptyTable}
 use Rattle.elf.proofs.Strings.{AllStand, all-stand, all-stand-more, stand-length, stands-inside}
 use Rattle.btf.specs.Btf.{Member, Var, BtfType, int, ptr, array, struct, var, datasec, typeNames, memberBytes, varBytes, typeBytes, info, Builder, addTypes, start, finished, btfBytes}

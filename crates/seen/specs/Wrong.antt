@@ -6,7 +6,7 @@ use Prim.Native.Nat.{ℕ, suc, _+_, _-_}
 use lib.ListN.{length, take}
 use lib.Dec.{eqb}
 use Rattle.octets.specs.Octets.{ascii, equal, zeros}
-use Rattle.text.specs.Written.{written}
+use Rattle.written.specs.Written.{written}
 use Rattle.ast.specs.Job.{Map, Relocation, Program, Job}
 use Rattle.ast.specs.Numbers.{mapTypeNumber}
 use Rattle.ast.specs.declared.«Type».{«Type» as MemberType}

@@ -9,7 +9,7 @@ use borrow.Rule.Slice.PartMut.{putMid}
 use Rattle.octets.specs.Over.{over}
 use Rattle.octets.proofs.Filling.{over-part}
 use Rattle.octets.specs.Octets.{ascii}
-use Rattle.text.specs.Written.{written}
+use Rattle.written.specs.Written.{written}
 use Rattle.ast.specs.Job.{Map}
 use Rattle.ast.specs.declared.«Type».{«Type» as MemberType}
 use Rattle.ast.specs.declared.MapType.{MapType}

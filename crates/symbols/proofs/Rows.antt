@@ -7,7 +7,7 @@ use native.Mathlib.Omega.{arith}
 use lib.ListN.{length, take, drop, getD, length-take, drop-of-length-le}
 use lib.Seq.{length-take-le}
 use Rattle.octets.specs.Over.{over}
-use Rattle.text.specs.Written.{written}
+use Rattle.written.specs.Written.{written}
 use Rattle.ast.specs.Job.{Map}
 use Rattle.ast.specs.declared.MapDecl.{MapDecl}
 use Rattle.elf.specs.Elf.{Symbol, symbolBytes, symbolsBytes, symbolInfo}

@@ -11,7 +11,7 @@ use borrow.Rule.Slice.PartMut.{putMid}
 use Rattle.octets.specs.Octets.{ascii}
 use Rattle.octets.specs.Over.{over}
 use Rattle.octets.proofs.Filling.{Filling, fill-start, fill-as, fill-on, fill-done, over-part}
-use Rattle.text.specs.Written.{written}
+use Rattle.written.specs.Written.{written}
 use Rattle.ast.specs.Job.{Map, Relocation, Job}
 use Rattle.ast.specs.Job as job
 use Rattle.ast.specs.declared.MapDecl.{MapDecl}

@@ -5,7 +5,7 @@ use mathlib.Core.Path.{_≡_}
 use Prim.Native.Nat.{ℕ, suc, _+_, _≤_, _<_}
 use lib.ListN.{length, take, getD}
 use lib.Dec.{eqb}
-use Rattle.text.specs.Written.{written}
+use Rattle.written.specs.Written.{written}
 use Rattle.ast.specs.Job.{Map, Job}
 use Rattle.ast.specs.declared.MapDecl.{MapDecl}
 use Rattle.elf.specs.Strings.{addStrings, emptyTable}

@@ -8,7 +8,7 @@ use borrow.Author.Needs.{needs}
 use borrow.Author.Tests.{eq-eqb, ne-eqb}
 use Rattle.lines.specs.Hex.{bytesIn}
 use Rattle.lines.proofs.Bytes.{bytes-length}
-use Rattle.text.specs.Utf8.{isText, hasZero}
+use Rattle.utf8.specs.Utf8.{isText, hasZero}
 use Rattle.refusals.specs.Checked.{long}
 use Rattle.flaws.proofs.Flaws.{worse-flaw, empty-flaw}
 use Rattle.flaws.proofs.program_flaw.Statement.{statement}

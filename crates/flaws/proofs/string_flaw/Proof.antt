@@ -2,7 +2,7 @@
 use mathlib.Core.Path.{sym, _∙_}
 use mathlib.Core.Bool.{not}
 use Rattle.lines.specs.Hex.{bytesIn}
-use Rattle.text.specs.Utf8.{isText}
+use Rattle.utf8.specs.Utf8.{isText}
 use Rattle.refusals.specs.Checked.{long}
 use Rattle.flaws.proofs.Flaws.{zero-flaw, no-zero-flaw}
 use Rattle.flaws.proofs.string_flaw.Statement.{statement}

@@ -8,7 +8,7 @@ use native.Mathlib.Omega.{arith}
 use lib.ListN.{length, drop}
 use borrow.Author.Needs.{needs}
 use borrow.Author.Tests.{not-false, ltb-false}
-use Rattle.text.specs.Utf8.{isText, hasZero}
+use Rattle.utf8.specs.Utf8.{isText, hasZero}
 use Rattle.frames.specs.Frames.{licence}
 use Rattle.refusals.specs.Checked.{went, advance, long}
 use Rattle.flaws.specs.Flaws.{stringFlaw, faultOf}

@@ -12,7 +12,7 @@ use borrow.Author.Tests.{not-false, ltb-false, leb-false}
 use Rattle.octets.specs.Octets.{value}
 use Rattle.lines.specs.Hex.{isHex, bytesIn}
 use Rattle.lines.proofs.Parts.{line-length}
-use Rattle.text.specs.Utf8.{isText}
+use Rattle.utf8.specs.Utf8.{isText}
 use Rattle.frames.specs.Frames.{Frame, relocation, frameOf}
 use Rattle.ast.specs.Job.{lastMap}
 use Rattle.object.specs.Read.{bytesAt, mapsIn, frameCode}

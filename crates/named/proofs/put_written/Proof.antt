@@ -11,8 +11,8 @@ use Rattle.octets.specs.Octets.{zeros}
 use Rattle.octets.specs.Over.{over}
 use Rattle.octets.proofs.Laws.{over-length}
 use Rattle.octets.proofs.Filling.{over-part, over-two}
-use Rattle.text.specs.Utf8.{isText}
-use Rattle.text.specs.Written.{written}
+use Rattle.utf8.specs.Utf8.{isText}
+use Rattle.written.specs.Written.{written}
 use Rattle.object.specs.Read.{nameIn}
 use Rattle.named.proofs.Names.{name-length, over-front}
 use Rattle.named.proofs.put_written.Statement.{statement}

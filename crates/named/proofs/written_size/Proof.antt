@@ -5,7 +5,7 @@ use Prim.Native.Nat.{ℕ, _-_}
 use native.Mathlib.Omega.{arith}
 use lib.ListN.{length, replicate, take, drop}
 use borrow.Author.Needs.{needs}
-use Rattle.text.specs.Written.{written}
+use Rattle.written.specs.Written.{written}
 use Rattle.object.specs.Read.{nameIn}
 use Rattle.named.proofs.Names.{name-length, written-most, over-front}
 use Rattle.named.proofs.written_size.Statement.{statement}

@@ -5,7 +5,7 @@ use Prim.Native.Nat.{ℕ}
 use native.Mathlib.Omega.{arith}
 use lib.ListN.{length-append}
 use borrow.Author.Needs.{needs}
-use Rattle.text.specs.Written.{written}
+use Rattle.written.specs.Written.{written}
 use Rattle.ast.specs.declared.MapDecl.{MapDecl}
 use Rattle.object.specs.Read.{nameIn}
 use Rattle.named.proofs.Going.{Going, go-start, go-as, go-room, go-on, go-done}

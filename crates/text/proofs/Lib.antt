@@ -1,4 +1,0 @@
-pub mod Laws
-pub mod Names
-pub mod SameWritten
-pub mod Single
