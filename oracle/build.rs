@@ -17,6 +17,9 @@ const VARIABLE: &str = "COINWHISTLE_UPSTREAM";
 /// The folder of the sources, relative to the package's folder, where the variable is not set.
 const BESIDE: &str = "../../shared/docs/src";
 
+/// The line by which the original names the file system.
+const FILE_SYSTEM: &str = "use std::fs;";
+
 /// A line of upstream.txt: a file of the original, and what is known of it.
 struct Fingerprint {
     path: String,
@@ -60,6 +63,21 @@ fn bring_in(source: &Path, out: &Path, known: &Fingerprint) {
     }
     if read(&copy) != bytes {
         fail(&format!("the copy {} differs from its source {}", copy.display(), source.display()));
+    }
+    if env::var_os("CARGO_FEATURE_MEMORY").is_some() && name == "elf.rs" {
+        keep_in_memory(&copy, &bytes);
+    }
+}
+
+/// For measuring: the copy's `fs` is the driver's own, which keeps the bytes and writes no file. Nothing else is altered.
+fn keep_in_memory(copy: &Path, bytes: &[u8]) {
+    let text = std::str::from_utf8(bytes).unwrap_or_else(|_| fail("the original's elf.rs is no text"));
+    if text.matches(FILE_SYSTEM).count() != 1 {
+        fail(&format!("the original's elf.rs does not have the line '{FILE_SYSTEM}' once"));
+    }
+    let altered = text.replace(FILE_SYSTEM, "use crate::memory as fs;");
+    if let Err(error) = fs::write(copy, altered) {
+        fail(&format!("{} can't be written: {error}", copy.display()));
     }
 }
 

@@ -20,4 +20,6 @@ pub mod describe;
 pub mod generate;
 pub mod job;
 pub mod list;
+#[cfg(feature = "memory")]
+pub mod memory;
 pub mod original;

@@ -38,7 +38,17 @@ impl Scratch {
             object.add_program(&program.section, &program.symbol, program.compiled)?;
         }
         object.write(&self.file)?;
+        self.written()
+    }
+
+    #[cfg(not(feature = "memory"))]
+    fn written(&self) -> Result<Vec<u8>, String> {
         fs::read(&self.file).map_err(|error| format!("failed to read object file: {error}"))
+    }
+
+    #[cfg(feature = "memory")]
+    fn written(&self) -> Result<Vec<u8>, String> {
+        Ok(crate::memory::take())
     }
 }
 

@@ -1,3 +1,4 @@
 pub mod Laid
 pub mod Turns
 pub mod Alike
+pub mod Single

@@ -58,7 +58,7 @@ next d =
     let q = d .before .before .before in
     let p = start d in
     let a = p .args in
-    next-slot (a .text .now) (a .t3) (a .first) (a .count) (turn d) (omega (arith, long p, p .pre .0)) (q .loop-test .taken)
+    next-slot (a .text .now) (a .t3) (a .first) (a .count) (turn d) (omega (arith, long p, p .pre .0)) (omega (arith, q .loop-test))
     (place d) (d .entry .given .0 .1 .0) (number d) (d .entry .given .1) (q .before .loop .inv .2)
 
 -- the entry, and what is still to come
@@ -89,7 +89,7 @@ returns c =
     let p = q .before .before .before .before in
     let a = p .args in
     absurd
-    (not-empty (a .text .now) (a .t3) (a .first) (a .count) (q .before .loop .i) (omega (arith, long p, p .pre .0)) (q .loop-test .taken)
+    (not-empty (a .text .now) (a .t3) (a .first) (a .count) (q .before .loop .i) (omega (arith, long p, p .pre .0)) (omega (arith, q .loop-test))
     (c .enum-told .given .1) (q .before .loop .inv .2))
 
 part-put-slot-end : tie.Need-part-put-slot-end Inv-loop μ-loop
