@@ -1,4 +1,2 @@
 pub mod Slots
-pub mod Frames
-pub mod Body
 pub mod Single

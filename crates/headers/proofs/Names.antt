@@ -12,8 +12,8 @@ use Rattle.object.specs.declared.Program.{Program}
 use Rattle.object.specs.Tables.{noProgram}
 use Rattle.object.specs.Read.{nameIn}
 use Rattle.named.proofs.Going.{Going, go-as, go-on, go-room, go-done}
-use Rattle.symbols.specs.Rows.{ProgramsThere}
-use Rattle.symbols.proofs.Rows.{program-from, program-end}
+use Rattle.strtab.specs.Rows.{ProgramsThere}
+use Rattle.strtab.proofs.Rows.{program-from, program-end}
 use Rattle.headers.specs.Names.{mapSectionNames, relName, programSectionNames}
 
 -- ---- the maps' sections

@@ -20,7 +20,7 @@ use Rattle.object.specs.declared.BpfObject.{BpfObject}
 use Rattle.object.specs.Read.{nameIn, relocationsIn, programsIn, declaredMaps, jobIn}
 use Rattle.object.specs.Kept.{Kept, AllKept}
 use Rattle.object.specs.Object.{mapSections, relSections, past, programSections, pastAll, firstProgram}
-use Rattle.symbols.proofs.Whole.{count-declared, programs-there}
+use Rattle.strtab.proofs.Whole.{count-declared, programs-there}
 use Rattle.headers.specs.Names.{sectionNames, shstrtabOf, mapSectionNames, relName, programSectionNames, tableNames}
 
 -- ---- the names by the tables

@@ -8,7 +8,7 @@ ghost use Rattle.octets.specs.Over.{over};
 ghost use Rattle.elf.proofs.Joined.{joined};
 ghost use Rattle.object.specs.Read.{nameIn, jobIn};
 ghost use Rattle.object.specs.Kept.{Named, Kept};
-ghost use Rattle.symbols.specs.Rows.{ProgramsThere};
+ghost use Rattle.strtab.specs.Rows.{ProgramsThere};
 ghost use Rattle.headers.specs.Names.{mapSectionNames, programSectionNames, tableNames, shstrtabOf};
 ghost use Rattle.headers.specs.Headers.{headersBytes};
 use ast::Name;

@@ -30,7 +30,7 @@ use Rattle.object.proofs.Counts.{symtab-number, past-all-near, first-near}
 use Rattle.object.proofs.Programs.{programs-length}
 use Rattle.contents.specs.Slots.{licenceLen}
 use Rattle.contents.proofs.Slots.{licence-length}
-use Rattle.symbols.specs.Rows.{strtabOf}
+use Rattle.strtab.specs.Rows.{strtabOf}
 use Rattle.headers.specs.Names.{sectionNames}
 use Rattle.headers.specs.Headers.{headersBytes}
 use Rattle.members.specs.Section.{roomsOf}

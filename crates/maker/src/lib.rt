@@ -38,7 +38,7 @@ fn weigh(text: &[u8], object: BpfObject) -> Weighed
     let license = contents::license_len(declared);
     let btf = spans::btf_size(text, maps, &object.map_at, &object.map_len, count);
     let room = spans::maps_size(maps, count);
-    let strtab = symbols::strtab_size(text, object);
+    let strtab = strtab::strtab_size(text, object);
     Weighed {
         sizes: Sizes {
             license,

@@ -28,9 +28,9 @@ use Rattle.object.specs.Kept.{Kept, ProgramKept, AllKept}
 use Rattle.object.specs.Object.{plain, licenseSection, mapSections, relSections, past, programSections, pastAll, firstProgram, symbols, declaredSections, symbolSection, tableSection, object}
 use Rattle.object.proofs.Counts.{symtab-number, count-symbols}
 use Rattle.named.proofs.Names.{name-length}
-use Rattle.symbols.specs.Rows.{behind, firstOf, strtabOf, symtabOf}
+use Rattle.strtab.specs.Rows.{behind, firstOf, strtabOf, symtabOf}
 use Rattle.headers.specs.Names.{sectionNames, shstrtabOf}
-use Rattle.symbols.proofs.Whole.{first-of, behind-program, programs-there, count-declared, symtab-long}
+use Rattle.strtab.proofs.Whole.{first-of, behind-program, programs-there, count-declared, symtab-long}
 use Rattle.measure.specs.declared.Measuring.{Measuring}
 use Rattle.measure.specs.declared.Measured.{Measured}
 use Rattle.measure.specs.declared.Sizes.{Sizes}

@@ -16,7 +16,7 @@ use Rattle.btf.specs.Btf.{btfBytes}
 use Rattle.btf.specs.Maps.{mapTypes, btfTypes}
 use Rattle.object.specs.declared.Program.{Program}
 use Rattle.object.specs.Object.{declaredSections, symbols, symbolSection, tableSection, object}
-use Rattle.symbols.specs.Rows.{behind, strtabOf}
+use Rattle.strtab.specs.Rows.{behind, strtabOf}
 use Rattle.headers.specs.Names.{shstrtabOf}
 use Rattle.measure.specs.declared.Measuring.{Measuring}
 use Rattle.measure.specs.declared.Measured.{Measured}

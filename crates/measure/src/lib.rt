@@ -6,7 +6,7 @@ ghost use Prim.Native.Nat.{_+_, _*_, _≤_, _<_, _^_};
 ghost use lib.ListN.{length, take};
 ghost use Rattle.elf.specs.Elf as elf;
 ghost use Rattle.elf.specs.Added.{Alignment};
-ghost use Rattle.symbols.specs.Rows.{behind};
+ghost use Rattle.strtab.specs.Rows.{behind};
 ghost use Rattle.ast.specs.Job as job;
 ghost use Rattle.object.specs.Object.{programSections};
 ghost use Rattle.object.specs.Read.{jobIn};

@@ -25,7 +25,7 @@ use Rattle.contents.specs.Slots.{slotsBytes, AllPlaced}
 use Rattle.contents.proofs.Slots.{slots-length}
 use Rattle.named.proofs.Going.{Going, go-start, go-as, go-room, go-on, go-done}
 use Rattle.sections.specs.Pieces.{bare, relPiece, programPieces, mapPieces, noSection, Placed, AllSlotted}
-use Rattle.symbols.specs.Rows.{firstOf}
+use Rattle.strtab.specs.Rows.{firstOf}
 use Rattle.sections.proofs.Laid.{laid-append, end-append}
 
 -- `all` are to be written from `start` on over `d`; those before section `n` are, up to `end`, and `rest` is to come

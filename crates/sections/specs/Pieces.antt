@@ -16,7 +16,7 @@ use Rattle.btf.specs.Btf.{btfBytes}
 use Rattle.btf.specs.Maps.{mapTypes, btfTypes}
 use Rattle.object.specs.declared.BpfObject.{BpfObject}
 use Rattle.object.specs.Read.{licenceIn, codeOf, body, declaredMaps, jobIn}
-use Rattle.symbols.specs.Rows.{symtabOf, strtabOf}
+use Rattle.strtab.specs.Rows.{symtabOf, strtabOf}
 use Rattle.headers.specs.Names.{shstrtabOf}
 use Rattle.contents.specs.Slots.{slotsBytes, AllPlaced}
 

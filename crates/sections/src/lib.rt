@@ -8,7 +8,7 @@ ghost use Rattle.octets.specs.Over.{over};
 ghost use Rattle.elf.specs.Elf.{alignTo, laid, endOf};
 ghost use Rattle.object.specs.Read.{licenceIn, codeOf, body, jobIn};
 ghost use Rattle.object.specs.Kept.{Kept, LicenceNamed, AllFrames};
-ghost use Rattle.symbols.specs.Rows.{symtabOf, strtabOf, ProgramsThere};
+ghost use Rattle.strtab.specs.Rows.{symtabOf, strtabOf, ProgramsThere};
 ghost use Rattle.headers.specs.Names.{shstrtabOf};
 ghost use Rattle.contents.specs.Slots.{slotsBytes, AllPlaced};
 ghost use Rattle.sections.specs.Pieces.{bare, programPieces, mapPieces, tablePieces, allPieces, Placed, AllSlotted};
@@ -60,7 +60,7 @@ fn lay_code(out: &mut [u8], end: usize, text: &[u8], program: Program, section: 
 {
     let at = pad(out, end, section);
     let behind = at + section.size as usize;
-    contents::put_code(
+    bodies::put_code(
         &mut out[at..behind],
         text,
         program.from as usize,
@@ -143,7 +143,7 @@ fn lay_strtab(out: &mut [u8], end: usize, text: &[u8], object: BpfObject, sectio
 {
     let at = pad(out, end, section);
     let behind = at + section.size as usize;
-    symbols::put_strtab(&mut out[at..behind], text, object);
+    strtab::put_strtab(&mut out[at..behind], text, object);
     behind
 }
 

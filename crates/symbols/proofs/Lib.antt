@@ -1,3 +1,1 @@
-pub mod Rows
-pub mod Whole
 pub mod Single

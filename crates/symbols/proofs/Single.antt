@@ -1,14 +1,10 @@
 -- Single outcomes: two outcomes that meet the promise of a public function of this crate are equal.
-use mathlib.Core.Path.{_≡_, sym, _∙_}
+use mathlib.Core.Path.{sym, _∙_}
 use Rattle.octets.proofs.Single.{OneResult, OneExit}
 use Rattle.symbols.proofs.section_behind.Kinds as section-behind-kinds
 use Rattle.symbols.proofs.section_behind.Reads as section-behind
 use Rattle.symbols.proofs.first_program.Kinds as first-program-kinds
 use Rattle.symbols.proofs.first_program.Reads as first-program
-use Rattle.symbols.proofs.strtab_size.Kinds as strtab-size-kinds
-use Rattle.symbols.proofs.strtab_size.Reads as strtab-size
-use Rattle.symbols.proofs.put_strtab.Kinds as put-strtab-kinds
-use Rattle.symbols.proofs.put_strtab.Reads as put-strtab
 use Rattle.symbols.proofs.put_symtab.Kinds as put-symtab-kinds
 use Rattle.symbols.proofs.put_symtab.Reads as put-symtab
 
@@ -17,12 +13,6 @@ section-behind-single κs a z z′ e e′ p p′ = p .0 ∙ sym (p′ .0)
 
 first-program-single : OneResult first-program-kinds.ps first-program-kinds.r first-program.Post
 first-program-single κs a z z′ e e′ p p′ = p .0 ∙ sym (p′ .0)
-
-strtab-size-single : OneResult strtab-size-kinds.ps strtab-size-kinds.r strtab-size.Post
-strtab-size-single κs a z z′ e e′ p p′ = p .0 ∙ sym (p′ .0)
-
-put-strtab-single : OneExit put-strtab-kinds.ps put-strtab-kinds.r put-strtab.Post (λ κs e. e .0 .now)
-put-strtab-single κs a z z′ e e′ p p′ = p ∙ sym p′
 
 put-symtab-single : OneExit put-symtab-kinds.ps put-symtab-kinds.r put-symtab.Post (λ κs e. e .0 .now)
 put-symtab-single κs a z z′ e e′ p p′ = p ∙ sym p′

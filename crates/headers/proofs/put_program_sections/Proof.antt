@@ -8,7 +8,7 @@ use borrow.Author.Needs.{needs}
 use Rattle.elf.proofs.Joined.{joined}
 use Rattle.named.proofs.Going.{Going, go-start}
 use Rattle.named.proofs.There.{kept-program}
-use Rattle.symbols.specs.Rows.{ProgramsThere}
+use Rattle.strtab.specs.Rows.{ProgramsThere}
 use Rattle.headers.specs.Names.{programSectionNames}
 use Rattle.headers.proofs.Names.{namesFrom, section-room, section-on, rel-room, rel-on, no-rel, sections-done}
 use Rattle.headers.proofs.put_program_sections.Statement.{statement}

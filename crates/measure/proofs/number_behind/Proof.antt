@@ -4,7 +4,7 @@ use Prim.Native.Nat.{ℕ, _+_, _-_, _*_, _≤_, _<_}
 use native.Mathlib.Omega.{arith}
 use lib.ListN.{length, take, drop, getD}
 use borrow.Author.Needs.{needs}
-use Rattle.symbols.proofs.Rows.{program-from, program-end}
+use Rattle.strtab.proofs.Rows.{program-from, program-end}
 use Rattle.measure.specs.Measured.{behindAll}
 use Rattle.measure.proofs.number_behind.Statement.{statement}
 use Rattle.measure.proofs.number_behind.Tie as tie

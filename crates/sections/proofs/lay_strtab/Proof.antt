@@ -10,7 +10,7 @@ use Rattle.elf.proofs.Places.{align-up}
 use Rattle.sections.specs.Pieces.{bare}
 use Rattle.sections.proofs.Laid.{lay, lay-end, lay-part}
 use Rattle.object.specs.Read.{jobIn}
-use Rattle.symbols.specs.Rows.{strtabOf}
+use Rattle.strtab.specs.Rows.{strtabOf}
 use Rattle.sections.proofs.lay_strtab.Statement.{statement}
 use Rattle.sections.proofs.lay_strtab.Tie as tie
 

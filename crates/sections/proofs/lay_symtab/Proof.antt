@@ -10,8 +10,8 @@ use Rattle.elf.proofs.Places.{align-up}
 use Rattle.sections.specs.Pieces.{bare}
 use Rattle.sections.proofs.Laid.{lay, lay-end, lay-part}
 use Rattle.object.specs.Read.{jobIn}
-use Rattle.symbols.specs.Rows.{symtabOf}
-use Rattle.symbols.proofs.Whole.{symtab-long}
+use Rattle.strtab.specs.Rows.{symtabOf}
+use Rattle.strtab.proofs.Whole.{symtab-long}
 use Rattle.sections.proofs.lay_symtab.Statement.{statement}
 use Rattle.sections.proofs.lay_symtab.Tie as tie
 

@@ -12,8 +12,8 @@ use Rattle.object.specs.Read.{codeOf, body}
 use Rattle.object.specs.Kept.{ProgramKept}
 use Rattle.contents.specs.Slots.{slotsBytes}
 use Rattle.named.proofs.There.{kept-program}
-use Rattle.symbols.specs.Rows.{ProgramsThere}
-use Rattle.symbols.proofs.Rows.{program-from, program-end}
+use Rattle.strtab.specs.Rows.{ProgramsThere}
+use Rattle.strtab.proofs.Rows.{program-from, program-end}
 use Rattle.sections.specs.Pieces.{bare, relPiece, programPieces, AllSlotted}
 use Rattle.sections.proofs.Turns.{Turn, turn-start, turn-room, turn-on, turn-done, aligned-programs, no-rels, some-rels, rels-long}
 use Rattle.sections.proofs.write_programs.Statement.{statement}

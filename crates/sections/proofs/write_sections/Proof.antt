@@ -7,7 +7,7 @@ use lib.ListN.{length, take, drop, getD, length-append}
 use borrow.Author.Needs.{needs}
 use Rattle.elf.specs.Elf.{Section}
 use Rattle.object.specs.Read.{declaredMaps, jobIn}
-use Rattle.symbols.proofs.Whole.{programs-there}
+use Rattle.strtab.proofs.Whole.{programs-there}
 use Rattle.measure.specs.Measured.{sectionsOf}
 use Rattle.measure.proofs.Whole.{aligned}
 use Rattle.sections.specs.Pieces.{mapPieces, programPieces, tablePieces, allPieces}

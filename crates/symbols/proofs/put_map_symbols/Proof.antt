@@ -11,7 +11,7 @@ use Rattle.btf.proofs.MapTypes.{map-size}
 use Rattle.object.specs.Tables.{noMap}
 use Rattle.object.specs.Read.{mapIn}
 use Rattle.named.specs.There.{MapsThere}
-use Rattle.symbols.proofs.Rows.{MapTurn, map-start, map-on, map-done, entryHere}
+use Rattle.strtab.proofs.Rows.{MapTurn, map-start, map-on, map-done, entryHere}
 use Rattle.symbols.proofs.put_map_symbols.Statement.{statement}
 use Rattle.symbols.proofs.put_map_symbols.Tie as tie
 

@@ -9,8 +9,8 @@ use borrow.Rule.Slice.PartMut.{mid-len}
 use Rattle.octets.proofs.Filling.{over-part}
 use Rattle.object.specs.Tables.{noProgram}
 use Rattle.named.proofs.There.{kept-program}
-use Rattle.symbols.specs.Rows.{ProgramsThere}
-use Rattle.symbols.proofs.Rows.{ProgramTurn, program-start, program-on, program-done, programHere}
+use Rattle.strtab.specs.Rows.{ProgramsThere}
+use Rattle.strtab.proofs.Rows.{ProgramTurn, program-start, program-on, program-done, programHere}
 use Rattle.symbols.proofs.put_program_symbols.Statement.{statement}
 use Rattle.symbols.proofs.put_program_symbols.Tie as tie
 

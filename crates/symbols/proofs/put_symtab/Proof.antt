@@ -9,9 +9,9 @@ use borrow.Rule.Slice.PartMut.{mid-len}
 use Rattle.elf.specs.Elf.{entryBytes}
 use Rattle.elf.specs.Entries.{entryOf}
 use Rattle.elf.specs.declared.Symbol.{Symbol}
-use Rattle.symbols.specs.Rows.{rowAt, programRow, firstOf}
+use Rattle.strtab.specs.Rows.{rowAt, programRow, firstOf}
 use Rattle.named.proofs.There.{kept-maps}
-use Rattle.symbols.proofs.Whole.{symtab-long, programs-there, symbols-null, symbols-licence, symbols-mapped, symbols-programmed}
+use Rattle.strtab.proofs.Whole.{symtab-long, programs-there, symbols-null, symbols-licence, symbols-mapped, symbols-programmed}
 use Rattle.symbols.proofs.put_symtab.Statement.{statement}
 use Rattle.symbols.proofs.put_symtab.Tie as tie
 

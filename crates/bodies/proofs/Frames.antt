@@ -25,7 +25,7 @@ use Rattle.frames.specs.Shown.{shown}
 use Rattle.frames.specs.declared.Frame.{Frame}
 use Rattle.frames.specs.declared.Frame.the-variants.{Instruction}
 use Rattle.object.specs.Read.{frameCode}
-use Rattle.contents.specs.Code.{insnIn}
+use Rattle.bodies.specs.Code.{insnIn}
 
 -- ---- a frame 04
 

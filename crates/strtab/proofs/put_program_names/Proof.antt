@@ -1,4 +1,4 @@
--- `symbols::put_program_names` meets its contract. Assumes nothing.
+-- `strtab::put_program_names` meets its contract. Assumes nothing.
 use mathlib.Core.Path.{_≡_, refl, sym, _∙_, ap}
 use mathlib.Core.List.{List, [], _∷_, _++_}
 use Prim.Native.Nat.{ℕ, _+_, _-_, _*_, _≤_, _<_}
@@ -8,10 +8,10 @@ use borrow.Author.Needs.{needs}
 use Rattle.elf.proofs.Joined.{joined}
 use Rattle.named.proofs.Going.{Going, go-start}
 use Rattle.named.proofs.There.{kept-program}
-use Rattle.symbols.specs.Rows.{programNames, ProgramsThere}
-use Rattle.symbols.proofs.Rows.{names-on, names-room, names-done, program-name-from, program-name-end}
-use Rattle.symbols.proofs.put_program_names.Statement.{statement}
-use Rattle.symbols.proofs.put_program_names.Tie as tie
+use Rattle.strtab.specs.Rows.{programNames, ProgramsThere}
+use Rattle.strtab.proofs.Rows.{names-on, names-room, names-done, program-name-from, program-name-end}
+use Rattle.strtab.proofs.put_program_names.Statement.{statement}
+use Rattle.strtab.proofs.put_program_names.Tie as tie
 
 abbrev Inv-loop : tie.InvT-loop
 Inv-loop out₀ start text count programs at₀ i₀ out at i =

@@ -1,13 +1,13 @@
--- `contents::put_insn` meets its contract. Assumes nothing.
+-- `bodies::put_insn` meets its contract. Assumes nothing.
 use mathlib.Core.Path.{_≡_, _∙_}
 use native.Mathlib.Omega.{arith}
 use lib.ListN.{length}
 use borrow.Author.Needs.{needs}
 use Rattle.lines.specs.Hex.{bytesIn}
 use Rattle.lines.proofs.Bytes.{bytes-length}
-use Rattle.contents.proofs.Frames.{insn-read}
-use Rattle.contents.proofs.put_insn.Statement.{statement}
-use Rattle.contents.proofs.put_insn.Tie as tie
+use Rattle.bodies.proofs.Frames.{insn-read}
+use Rattle.bodies.proofs.put_insn.Statement.{statement}
+use Rattle.bodies.proofs.put_insn.Tie as tie
 
 returns : tie.Need-returns
 returns c =

@@ -1,10 +1,9 @@
 -- `.symtab` and `.strtab` of the definitions are the rows that the code writes: the null symbol, LICENSE, the maps, the programs.
 use mathlib.Core.Path.{_≡_, refl, sym, _∙_, ap}
-use mathlib.Core.Bool.{Bool, true, false}
 use mathlib.Core.List.{List, [], _∷_, _++_, map, map-append, append-assoc, append-nil}
-use Prim.Native.Nat.{ℕ, zero, suc, _+_, _-_, _*_, _≤_, _<_}
+use Prim.Native.Nat.{ℕ, suc, _+_, _-_, _*_, _≤_}
 use native.Mathlib.Omega.{arith}
-use lib.ListN.{length, take, drop, getD, length-append, length-drop}
+use lib.ListN.{length, take, drop, length-append, length-drop}
 use lib.Seq.{length-take-le}
 use lib.Dec.{eqb·suc-zero}
 use borrow.Rule.Slice.PartMut.{putMid}
@@ -12,26 +11,23 @@ use Rattle.octets.specs.Octets.{ascii}
 use Rattle.octets.specs.Over.{over}
 use Rattle.octets.proofs.Filling.{Filling, fill-start, fill-as, fill-on, fill-done, over-part}
 use Rattle.written.specs.Written.{written}
-use Rattle.ast.specs.Job.{Map, Relocation, Job}
-use Rattle.ast.specs.Job as job
+use Rattle.ast.specs.Job.{Map}
 use Rattle.ast.specs.declared.MapDecl.{MapDecl}
-use Rattle.elf.specs.Strings.{addStrings, emptyTable}
+use Rattle.elf.specs.Strings.{emptyTable}
 use Rattle.elf.specs.Elf.{Symbol, symbolBytes, symbolsBytes, symbolInfo, entryBytes, nullEntry}
-use Rattle.elf.proofs.Strings.{sizeOf, size-append}
-use Rattle.elf.proofs.Joined.{placesAt, joined, table-joined, places-at, joined-append, length-joined}
+use Rattle.elf.proofs.Strings.{sizeOf}
+use Rattle.elf.proofs.Joined.{joined, table-joined, places-at, joined-append, length-joined}
 use Rattle.btf.specs.Maps.{mapSize}
 use Rattle.object.specs.declared.Slot.{Slot}
 use Rattle.object.specs.declared.Program.{Program}
 use Rattle.object.specs.declared.BpfObject.{BpfObject}
-use Rattle.object.specs.Tables.{Sound}
 use Rattle.object.specs.Read.{bytesAt, nameIn, mapIn, licenceIn, mapsIn, relocationsIn, programIn, programsIn, declaredMaps, jobIn}
-use Rattle.object.specs.Kept.{Kept, ProgramKept, AllKept}
+use Rattle.object.specs.Kept.{Kept, AllKept}
 use Rattle.object.specs.Object.{past, mapSymbols, programSymbols, firstProgram, symbols}
 use Rattle.object.proofs.Read.{count-maps}
 use Rattle.object.proofs.Programs.{kept-more}
-use Rattle.named.proofs.There.{kept-maps}
-use Rattle.symbols.specs.Rows.{rowAt, rowSize, mapRow, behind, firstOf, programRow, namesIn, programNames, symtabOf, strtabOf, NamesThere, ProgramsThere}
-use Rattle.symbols.proofs.Rows.{row-is, row-length, symbols-maps, length-programs}
+use Rattle.strtab.specs.Rows.{rowAt, rowSize, mapRow, behind, firstOf, programRow, namesIn, programNames, symtabOf, strtabOf, NamesThere, ProgramsThere}
+use Rattle.strtab.proofs.Rows.{row-is, row-length, symbols-maps, length-programs}
 
 -- ---- rows
 

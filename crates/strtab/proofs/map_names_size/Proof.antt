@@ -1,4 +1,4 @@
--- `symbols::map_names_size` meets its contract. Assumes nothing.
+-- `strtab::map_names_size` meets its contract. Assumes nothing.
 use mathlib.Core.Path.{_≡_, refl, sym, _∙_, ap}
 use mathlib.Core.List.{List, [], _∷_, _++_}
 use Prim.Native.Nat.{ℕ, _+_, _-_, _*_, _≤_, _<_}
@@ -6,10 +6,10 @@ use native.Mathlib.Omega.{arith}
 use lib.ListN.{length, take, drop, getD}
 use borrow.Author.Needs.{needs}
 use Rattle.elf.proofs.Strings.{sizeOf}
-use Rattle.symbols.specs.Rows.{namesIn, NamesThere}
-use Rattle.symbols.proofs.Rows.{name-from, name-end}
-use Rattle.symbols.proofs.map_names_size.Statement.{statement}
-use Rattle.symbols.proofs.map_names_size.Tie as tie
+use Rattle.strtab.specs.Rows.{namesIn, NamesThere}
+use Rattle.strtab.proofs.Rows.{name-from, name-end}
+use Rattle.strtab.proofs.map_names_size.Statement.{statement}
+use Rattle.strtab.proofs.map_names_size.Tie as tie
 
 abbrev Inv-loop : tie.InvT-loop
 Inv-loop text ats lens count n₀ i₀ n i =

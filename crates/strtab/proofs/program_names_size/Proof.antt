@@ -1,4 +1,4 @@
--- `symbols::program_names_size` meets its contract. Assumes nothing.
+-- `strtab::program_names_size` meets its contract. Assumes nothing.
 use mathlib.Core.Path.{_≡_, refl, sym, _∙_, ap}
 use mathlib.Core.List.{List, [], _∷_, _++_}
 use Prim.Native.Nat.{ℕ, _+_, _-_, _*_, _≤_, _<_}
@@ -7,10 +7,10 @@ use lib.ListN.{length, take, drop, getD}
 use borrow.Author.Needs.{needs}
 use Rattle.elf.proofs.Strings.{sizeOf}
 use Rattle.named.proofs.There.{kept-program}
-use Rattle.symbols.specs.Rows.{programNames, ProgramsThere}
-use Rattle.symbols.proofs.Rows.{program-name-from, program-name-end}
-use Rattle.symbols.proofs.program_names_size.Statement.{statement}
-use Rattle.symbols.proofs.program_names_size.Tie as tie
+use Rattle.strtab.specs.Rows.{programNames, ProgramsThere}
+use Rattle.strtab.proofs.Rows.{program-name-from, program-name-end}
+use Rattle.strtab.proofs.program_names_size.Statement.{statement}
+use Rattle.strtab.proofs.program_names_size.Tie as tie
 
 abbrev Inv-loop : tie.InvT-loop
 Inv-loop text count programs n₀ i₀ n i =

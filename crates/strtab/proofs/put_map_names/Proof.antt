@@ -1,4 +1,4 @@
--- `symbols::put_map_names` meets its contract. Assumes nothing.
+-- `strtab::put_map_names` meets its contract. Assumes nothing.
 use mathlib.Core.Path.{_≡_, refl, sym, _∙_, ap}
 use mathlib.Core.List.{List, [], _∷_, _++_}
 use Prim.Native.Nat.{ℕ, _+_, _-_, _*_, _≤_, _<_}
@@ -9,10 +9,10 @@ use Rattle.written.specs.Written.{written}
 use Rattle.elf.proofs.Joined.{joined}
 use Rattle.object.specs.Read.{bytesAt}
 use Rattle.named.proofs.Going.{Going, go-start}
-use Rattle.symbols.specs.Rows.{namesIn, NamesThere}
-use Rattle.symbols.proofs.Rows.{names-on, names-room, names-done, name-from, name-end}
-use Rattle.symbols.proofs.put_map_names.Statement.{statement}
-use Rattle.symbols.proofs.put_map_names.Tie as tie
+use Rattle.strtab.specs.Rows.{namesIn, NamesThere}
+use Rattle.strtab.proofs.Rows.{names-on, names-room, names-done, name-from, name-end}
+use Rattle.strtab.proofs.put_map_names.Statement.{statement}
+use Rattle.strtab.proofs.put_map_names.Tie as tie
 
 abbrev Inv-loop : tie.InvT-loop
 Inv-loop out₀ text ats lens count at₀ i₀ out at i =

@@ -1,10 +1,10 @@
--- `contents::put_bytes` meets its contract. Assumes nothing.
+-- `bodies::put_bytes` meets its contract. Assumes nothing.
 use mathlib.Core.Path.{_∙_}
 use native.Mathlib.Omega.{arith}
 use borrow.Author.Needs.{needs}
-use Rattle.contents.proofs.Frames.{two-long, behind-hex, behind-length, behind-bytes}
-use Rattle.contents.proofs.put_bytes.Statement.{statement}
-use Rattle.contents.proofs.put_bytes.Tie as tie
+use Rattle.bodies.proofs.Frames.{two-long, behind-hex, behind-length, behind-bytes}
+use Rattle.bodies.proofs.put_bytes.Statement.{statement}
+use Rattle.bodies.proofs.put_bytes.Tie as tie
 
 sub-put-unhex : tie.Need-sub-put-unhex
 sub-put-unhex c = let p = c .before .before .before in omega (arith, two-long (p .args .line .now) (p .pre .0) (p .pre .1 .0))

@@ -1,5 +1,5 @@
 -- Rows of symbols: how long they are, what a loop over the maps keeps, and that the rows are those of the definitions.
-use mathlib.Core.Path.{_≡_, refl, sym, _∙_, ap}
+use mathlib.Core.Path.{_≡_, refl, ap}
 use mathlib.Core.List.{List, [], _∷_, _++_, map}
 use Prim.Native.Nat.{ℕ, zero, suc, _+_, _*_, _≤_, _<_}
 use native.Mathlib.Numerals.{add-one}
@@ -12,7 +12,7 @@ use Rattle.ast.specs.Job.{Map}
 use Rattle.ast.specs.declared.MapDecl.{MapDecl}
 use Rattle.elf.specs.Elf.{Symbol, symbolBytes, symbolsBytes, symbolInfo}
 use Rattle.elf.proofs.Joined.{placesAt, joined, length-string}
-use Rattle.btf.specs.Maps.{mapSize, mapRoom}
+use Rattle.btf.specs.Maps.{mapSize}
 use Rattle.btf.proofs.MapTypes.{map-size}
 use Rattle.object.specs.declared.Program.{Program}
 use Rattle.object.specs.Tables.{noMap, noProgram}
@@ -23,7 +23,7 @@ use Rattle.named.specs.There.{MapsThere}
 use Rattle.named.proofs.Names.{written-most}
 use Rattle.named.proofs.There.{maps-from, maps-end}
 use Rattle.named.proofs.Going.{Going, go-start, go-as, go-on, go-room, go-done}
-use Rattle.symbols.specs.Rows.{rowAt, rowSize, mapRow, behind, programRow, namesIn, programNames, NamesThere, ProgramsThere}
+use Rattle.strtab.specs.Rows.{rowAt, rowSize, mapRow, behind, programRow, namesIn, programNames, NamesThere, ProgramsThere}
 
 -- ---- any row
 

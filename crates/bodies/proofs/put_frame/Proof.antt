@@ -1,4 +1,4 @@
--- `contents::put_frame` meets its contract: one arm for each frame. Assumes nothing.
+-- `bodies::put_frame` meets its contract: one arm for each frame. Assumes nothing.
 use mathlib.Core.Path.{_≡_, sym, _∙_, ap}
 use mathlib.Core.List.{List}
 use Prim.Native.Nat.{ℕ, _+_, _*_, _-_, _/_, _≤_}
@@ -14,9 +14,9 @@ use Rattle.frames.specs.Shown.{shown}
 use Rattle.frames.specs.declared.Frame.{Frame}
 use Rattle.frames.specs.declared.Frame.the-variants.{Code, Instruction}
 use Rattle.object.specs.Read.{frameCode}
-use Rattle.contents.proofs.Frames.{instruction-ten, code-shown, nothing-added, two-long}
-use Rattle.contents.proofs.put_frame.Statement.{statement}
-use Rattle.contents.proofs.put_frame.Tie as tie
+use Rattle.bodies.proofs.Frames.{instruction-ten, code-shown, nothing-added, two-long}
+use Rattle.bodies.proofs.put_frame.Statement.{statement}
+use Rattle.bodies.proofs.put_frame.Tie as tie
 
 -- the line's bytes, and the code that they are
 abbrev bytes : tie.After-read-frame → List ℕ

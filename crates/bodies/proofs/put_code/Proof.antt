@@ -1,4 +1,4 @@
--- `contents::put_code` meets its contract. The loop keeps where the next line starts, that the lines that are left are frames, and that the
+-- `bodies::put_code` meets its contract. The loop keeps where the next line starts, that the lines that are left are frames, and that the
 -- code of those before them is there. Assumes nothing.
 use mathlib.Core.Path.{_≡_, refl, sym, _∙_}
 use mathlib.Core.List.{List, [], _++_}
@@ -15,9 +15,9 @@ use Rattle.lines.proofs.Laws.{line-ended}
 use Rattle.frames.specs.Frames.{frameOf}
 use Rattle.object.specs.Read.{frameCode, codeOf, body}
 use Rattle.object.specs.Kept.{AllFrames}
-use Rattle.contents.proofs.Body.{Turn, turn, not-cut, code-done}
-use Rattle.contents.proofs.put_code.Statement.{statement}
-use Rattle.contents.proofs.put_code.Tie as tie
+use Rattle.bodies.proofs.Body.{Turn, turn, not-cut, code-done}
+use Rattle.bodies.proofs.put_code.Statement.{statement}
+use Rattle.bodies.proofs.put_code.Tie as tie
 
 abbrev Inv-loop : tie.InvT-loop
 Inv-loop out₀ text from lines i₀ at₀ start₀ out i at start =

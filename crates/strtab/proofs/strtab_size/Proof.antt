@@ -1,13 +1,13 @@
--- `symbols::strtab_size` meets its contract. Assumes nothing.
+-- `strtab::strtab_size` meets its contract. Assumes nothing.
 use mathlib.Core.Path.{_≡_, refl, sym, _∙_, ap}
 use mathlib.Core.List.{List, [], _∷_, _++_}
 use Prim.Native.Nat.{ℕ, _+_, _-_, _*_, _≤_, _<_}
 use native.Mathlib.Omega.{arith}
 use lib.ListN.{length, take, drop, getD}
 use borrow.Author.Needs.{needs}
-use Rattle.symbols.proofs.Whole.{strtab-long, names-there, programs-there}
-use Rattle.symbols.proofs.strtab_size.Statement.{statement}
-use Rattle.symbols.proofs.strtab_size.Tie as tie
+use Rattle.strtab.proofs.Whole.{strtab-long, names-there, programs-there}
+use Rattle.strtab.proofs.strtab_size.Statement.{statement}
+use Rattle.strtab.proofs.strtab_size.Tie as tie
 
 map-names-size-requires : tie.Need-map-names-size-requires
 map-names-size-requires c κs =

@@ -1,4 +1,4 @@
--- `symbols::put_strtab` meets its contract: four pieces. Assumes nothing.
+-- `strtab::put_strtab` meets its contract: four pieces. Assumes nothing.
 use mathlib.Core.Path.{_≡_, refl, sym, _∙_, ap}
 use mathlib.Core.List.{List, [], _∷_, _++_}
 use Prim.Native.Nat.{ℕ, _+_, _-_, _*_, _≤_, _<_}
@@ -9,9 +9,9 @@ use borrow.Rule.Slice.PartMut.{mid-len}
 use Rattle.octets.specs.Octets.{zeros, ascii}
 use Rattle.octets.proofs.Filling.{fill-room}
 use Rattle.elf.proofs.Joined.{joined}
-use Rattle.symbols.proofs.Whole.{strtab-long, names-there, programs-there, strings-zeros, strings-licence, strings-maps, strings-programs, mapNames, programNamed}
-use Rattle.symbols.proofs.put_strtab.Statement.{statement}
-use Rattle.symbols.proofs.put_strtab.Tie as tie
+use Rattle.strtab.proofs.Whole.{strtab-long, names-there, programs-there, strings-zeros, strings-licence, strings-maps, strings-programs, mapNames, programNamed}
+use Rattle.strtab.proofs.put_strtab.Statement.{statement}
+use Rattle.strtab.proofs.put_strtab.Tie as tie
 
 part-clear-end : tie.Need-part-clear-end
 part-clear-end c =
