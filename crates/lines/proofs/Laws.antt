@@ -4,8 +4,8 @@ use mathlib.Core.Bool.{Bool, true, false, cond, _&&_}
 use mathlib.Core.Option.{Option, none, some}
 use mathlib.Core.List.{List, [], _∷_}
 use mathlib.Core.Logic.{_⊎_, inl, inr, ⊎-elim}
-use Prim.Native.Nat.{ℕ, zero, suc, _+_, _-_, _*_, _≤_, _<_}
-use native.Mathlib.Nat.{add-zero, add-assoc}
+use Prim.Native.Nat.{ℕ, suc, _+_, _-_, _*_, _≤_, _<_}
+use native.Mathlib.Nat.{add-zero}
 use native.Mathlib.Omega.{arith}
 use lib.Dec.{eqb, leb}
 use Rattle.octets.specs.Octets.{within}
@@ -14,7 +14,6 @@ use lib.Seq.{drop-drop}
 use borrow.Author.Tests.{eq-eqb, ne-eqb, leb-true}
 use Rattle.lines.specs.Lines.{Line, lines, before, digit, pair, unhex}
 use Rattle.octets.proofs.Laws.{read-on, read-done}
-use Rattle.lines.specs.declared.LineEnd.{LineEnd}
 use Rattle.lines.specs.declared.LineEnd.the-variants.{Ended, Cut}
 use Rattle.lines.specs.Ends.{endOf, lineEnd}
 use Rattle.lines.specs.Hex.{there, bytesOf}
@@ -51,16 +50,6 @@ hex-on s i h =
     let e : i + 1 + 1 ≡ i + 2 = omega arith in
     let k : i < length s = omega arith in
     rw (read-on s i k, read-on s (i + 1) h, e) (there-pair (digit (getD s i 0)) (digit (getD s (i + 1) 0)) (unhex (drop (i + 2) s)))
-
--- one character alone
-pub hex-odd : (s : List ℕ) (i : ℕ) → length s - i ≡ 1 → there (unhex (drop i s)) ≡ false
-hex-odd s i h =
-    let k : i < length s = omega arith in
-    let l : length s ≤ i + 1 = omega arith in
-    rw (read-on s i k, read-done s (i + 1) l)
-
-pub hex-done : (s : List ℕ) (i : ℕ) → length s ≤ i → there (unhex (drop i s)) ≡ true
-hex-done s i h = rw (read-done s i h)
 
 -- ---- what callers learn of a line from its end
 

@@ -1,4 +1,5 @@
 pub mod Laws
+pub mod Walks
 pub mod Bytes
 pub mod Same
 pub mod Parts

@@ -1,8 +1,9 @@
 -- Where a line ends, by places in the text.
-use mathlib.Core.Bool.{cond}
+use mathlib.Core.Bool.{Bool, false, cond, _||_}
 use mathlib.Core.List.{List, [], _∷_}
 use Prim.Native.Nat.{ℕ, _+_}
 use lib.ListN.{length, drop}
+use lib.Dec.{eqb}
 use Rattle.lines.specs.Lines.{Line, lines}
 use Rattle.lines.specs.declared.LineEnd.{LineEnd}
 use Rattle.lines.specs.declared.LineEnd.the-variants.{Ended, Cut}
@@ -15,3 +16,8 @@ endOf at (l ∷ ls) = cond (l .ended) (Ended (at + length (l .text))) Cut
 -- the end of the line of `s` that starts at `at`: its LF, or `Cut` where it has none
 abbrev pub lineEnd : List ℕ → ℕ → LineEnd
 lineEnd s at = endOf at (lines (drop at s))
+
+-- whether an LF stands among characters
+abbrev pub holdsEnd : List ℕ → Bool
+holdsEnd [] = false
+holdsEnd (c ∷ cs) = eqb c 10 || holdsEnd cs

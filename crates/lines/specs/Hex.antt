@@ -4,12 +4,6 @@ use mathlib.Core.Option.{Option, none, some}
 use mathlib.Core.List.{List, []}
 use Prim.Native.Nat.{ℕ}
 use Rattle.lines.specs.Lines.{unhex, frameBytes}
-use Rattle.lines.specs.declared.Digit.{Digit}
-use Rattle.lines.specs.declared.Digit.the-variants.{Of, NotHex}
-
-abbrev pub digitOf : Digit → Option ℕ
-digitOf (Of n) = some n
-digitOf NotHex = none
 
 abbrev pub there : {A : Type 0} → Option A → Bool
 there none = false

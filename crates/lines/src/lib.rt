@@ -2,13 +2,14 @@
 // characters 2 i and 2 i + 1.
 ghost use mathlib.Core.Path.{_≡_};
 ghost use mathlib.Core.Option.{some};
-ghost use mathlib.Core.Bool.{true};
+ghost use mathlib.Core.Bool.{true, cond};
+ghost use lib.Dec.{eqb};
 ghost use Prim.Native.Nat.{_*_, _+_, _^_, _≤_, _<_};
 ghost use lib.ListN.{length, take, drop, getD};
 ghost use Rattle.octets.specs.Octets.{value};
 ghost use Rattle.lines.specs.Lines.{digit, unhex};
-ghost use Rattle.lines.specs.Ends.{lineEnd};
-ghost use Rattle.lines.specs.Hex.{digitOf, there, isHex, isFrame, bytesIn, bytesOf};
+ghost use Rattle.lines.specs.Ends.{holdsEnd, lineEnd};
+ghost use Rattle.lines.specs.Hex.{there, isHex, isFrame, bytesIn, bytesOf};
 
 // Where a line ends.
 pub enum LineEnd {
@@ -16,11 +17,72 @@ pub enum LineEnd {
     Cut,
 }
 
-// The end of the line that starts at `at`: the place of its LF, or `Cut` where no LF ends it.
-pub fn line_end(s: &[u8], at: usize) -> LineEnd
+// 1 for LF, 0 for every other character.
+fn is_end(c: u8) -> u8
+    ensures { λ r. ⌜ r ≡ cond (eqb c 10) 1 0 ⌝ }
+{
+    if c == b'\n' {
+        return 1;
+    }
+    0
+}
+
+// Whether an LF stands in `s`. All characters are looked at, with no early end, so that the compiler takes many at a time.
+fn has_end(s: &[u8]) -> bool
+    ensures { λ r. ⌜ r ≡ holdsEnd (now (s .entry)) ⌝ }
+{
+    let mut found: u8 = 0;
+    let mut i = 0;
+    while i < s.len() {
+        found = found | is_end(s[i]);
+        i += 1;
+    }
+    found != 0
+}
+
+// A place from which the line that starts at `at` has the same end: an LF, or at most 32 characters further.
+fn near_end(s: &[u8], at: usize) -> usize
+    ensures { λ r. ⌜ lineEnd (now (s .entry)) r ≡ lineEnd (now (s .entry)) at ⌝ }
+{
+    let mut stop = s.len();
+    if stop <= at {
+        return at;
+    }
+    if 32 < stop - at {
+        stop = at + 32;
+    }
+    let mut i = at;
+    while i < stop {
+        if s[i] == b'\n' {
+            return i;
+        }
+        i += 1;
+    }
+    i
+}
+
+// The same, past all blocks of 64 characters that hold no LF.
+fn skip_blocks(s: &[u8], at: usize) -> usize
+    ensures { λ r. ⌜ lineEnd (now (s .entry)) r ≡ lineEnd (now (s .entry)) at ⌝ }
+{
+    if s.len() < at {
+        return at;
+    }
+    let mut i = at;
+    while 64 <= s.len() - i {
+        if has_end(&s[i..i + 64]) {
+            return i;
+        }
+        i += 64;
+    }
+    i
+}
+
+// The end of a line of which the first characters are behind `at`.
+fn far_end(s: &[u8], at: usize) -> LineEnd
     ensures { λ r. ⌜ r ≡ lineEnd (now (s .entry)) at ⌝ }
 {
-    let mut i = at;
+    let mut i = skip_blocks(s, at);
     while i < s.len() {
         if s[i] == b'\n' {
             return LineEnd::Ended(i);
@@ -30,57 +92,51 @@ pub fn line_end(s: &[u8], at: usize) -> LineEnd
     LineEnd::Cut
 }
 
-enum Digit {
-    Of(u8),
-    NotHex,
-}
-
-// The number that a lower-case hexadecimal digit stands for.
-fn digit_of(c: u8) -> Digit
-    ensures { λ r. ⌜ digitOf r ≡ digit c ⌝ }
+// The end of the line that starts at `at`: the place of its LF, or `Cut` where no LF ends it. Most lines are short, and the others are
+// looked at in blocks.
+pub fn line_end(s: &[u8], at: usize) -> LineEnd
+    ensures { λ r. ⌜ r ≡ lineEnd (now (s .entry)) at ⌝ }
 {
-    if c < 48 {
-        return Digit::NotHex;
+    let near = near_end(s, at);
+    if near < s.len() {
+        if s[near] == b'\n' {
+            return LineEnd::Ended(near);
+        }
     }
-    if c <= 57 {
-        return Digit::Of(c - 48);
-    }
-    if c < 97 {
-        return Digit::NotHex;
-    }
-    if c <= 102 {
-        return Digit::Of(c - 87);
-    }
-    Digit::NotHex
+    far_end(s, near)
 }
 
+// A lower-case hexadecimal digit. The four tests are joined with no branch.
 fn is_digit(c: u8) -> bool
     ensures { λ r. ⌜ r ≡ there (digit c) ⌝ }
 {
-    match digit_of(c) {
-        Digit::Of(_) => true,
-        Digit::NotHex => false,
-    }
+    ((48 <= c) & (c <= 57)) | ((97 <= c) & (c <= 102))
 }
 
-// Whether `s` is hexadecimal of even length.
+// 0 for a digit, 1 for every other character.
+fn not_digit(c: u8) -> u8
+    ensures { λ r. ⌜ r ≡ cond (there (digit c)) 0 1 ⌝ }
+{
+    if is_digit(c) {
+        return 0;
+    }
+    1
+}
+
+// Whether `s` is hexadecimal of even length. All characters are looked at, with no early end, so that the compiler takes many at a time.
 fn is_hex(s: &[u8]) -> bool
     ensures { λ r. ⌜ r ≡ there (unhex (now (s .entry))) ⌝ }
 {
+    let mut bad: u8 = 0;
     let mut i = 0;
     while i < s.len() {
-        if s.len() - i == 1 {
-            return false;
-        }
-        if !is_digit(s[i]) {
-            return false;
-        }
-        if !is_digit(s[i + 1]) {
-            return false;
-        }
-        i += 2;
+        bad = bad | not_digit(s[i]);
+        i += 1;
     }
-    true
+    if s.len() % 2 == 1 {
+        return false;
+    }
+    bad == 0
 }
 
 // Whether the text of a line that LF ends is a frame's: not empty, and hexadecimal of even length.
@@ -93,15 +149,12 @@ pub fn is_frame(s: &[u8]) -> bool
     is_hex(s)
 }
 
-// The number of a character that is a digit.
+// The number of a character that is a digit: the low four bits of `0` to `9`, and nine more than those of `a` to `f`.
 fn nibble(c: u8) -> u8
     requires { ⌜ there (digit c) ≡ true ⌝ }
     ensures { λ r. ⌜ (some r ≡ digit c) × (r ≤ 15) ⌝ }
 {
-    if c <= 57 {
-        return c - 48;
-    }
-    c - 87
+    (c & 15) + 9 * (c >> 6)
 }
 
 // The bytes of the hexadecimal `s`, into a part of exactly their number.
