@@ -5,8 +5,9 @@ use Prim.Native.Nat.{ℕ, suc, _+_}
 use native.Mathlib.Omega.{arith}
 use lib.ListN.{length, length-append}
 use Rattle.elf.specs.Strings.{addStrings}
-use Rattle.elf.proofs.Strings.{sizeOf, size-append, table-length}
-use Rattle.elf.proofs.Joined.{joined, placesAt, table-joined, places-at, joined-append, count-places}
+use Rattle.elf.specs.Row.{sizeOf, joined, placesAt}
+use Rattle.elf.proofs.Strings.{size-append, table-length}
+use Rattle.elf.proofs.Joined.{table-joined, places-at, joined-append, count-places}
 use Rattle.btf.specs.Btf.{BtfType, typeNames, typeBytes, start, addTypes}
 use Rattle.btf.specs.Builder.{behind, bytesAt, namesOf, past}
 use Rattle.btf.specs.declared.BtfBuilder.{BtfBuilder}

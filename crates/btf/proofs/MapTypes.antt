@@ -19,7 +19,8 @@ use Rattle.ast.specs.declared.TypeAttr.{TypeAttr}
 use Rattle.ast.specs.declared.TypeAttr.the-variants as type
 use Rattle.ast.specs.declared.CountAttr.{CountAttr}
 use Rattle.ast.specs.declared.CountAttr.the-variants as count
-use Rattle.elf.proofs.Strings.{sizeOf, size-append}
+use Rattle.elf.specs.Row.{sizeOf}
+use Rattle.elf.proofs.Strings.{size-append}
 use Rattle.btf.specs.Btf.{BtfType, ptr, array, struct, var, datasec, btfBytes}
 use Rattle.btf.specs.Maps.{intId, typeId, intTypes, Attributes, addNumber, addTypeAttr, addCountAttr, attributes, typeCount, countCount, mapSize, mapTypes, btfTypes}
 use Rattle.btf.proofs.Types.{FitMember, FitVar, FitType, weigh, weigh-append, length-btf}

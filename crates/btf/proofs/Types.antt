@@ -8,7 +8,8 @@ use lib.ListN.{length, length-append, length-map}
 use Rattle.octets.proofs.Lists.{All}
 use Rattle.written.proofs.Names.{Clean}
 use Rattle.elf.specs.Strings.{addStrings, emptyTable}
-use Rattle.elf.proofs.Strings.{all-stand, stand-length, table-grows, sizeOf, table-length}
+use Rattle.elf.specs.Row.{sizeOf}
+use Rattle.elf.proofs.Strings.{all-stand, stand-length, table-grows, table-length}
 use Rattle.btf.specs.Btf.{Member, Var, BtfType, int, ptr, array, struct, var, datasec, typeNames, memberBytes, varBytes, typeBytes, Builder, addType, addTypes, start, finished, btfBytes}
 
 -- ---- one type

@@ -3,7 +3,7 @@ use mathlib.Core.List.{List, [], _∷_, _++_}
 use Prim.Native.Nat.{ℕ, suc, _+_, _^_, _≤_, _<_}
 use lib.ListN.{length}
 use Rattle.octets.specs.Octets.{le}
-use Rattle.elf.proofs.Joined.{placesAt}
+use Rattle.elf.specs.Row.{placesAt}
 use Rattle.btf.specs.Btf.{BtfType, typeNames, typeBytes}
 use Rattle.btf.specs.declared.BtfBuilder.{BtfBuilder}
 

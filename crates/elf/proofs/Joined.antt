@@ -1,22 +1,12 @@
--- String tables by their lengths: strings in a row, each with its zero byte, and the places that they take behind a table of `n` bytes.
--- What a writer that keeps only the length of the table so far goes by.
+-- String tables by their lengths: a table is what its strings are in a row, and their places follow from the lengths before them. What a
+-- writer that keeps only the length of the table so far goes by.
 use mathlib.Core.Path.{_≡_, refl, sym, ap, _∙_}
 use mathlib.Core.List.{List, [], _∷_, _++_, append-assoc, append-nil}
 use Prim.Native.Nat.{ℕ, suc, _+_}
 use native.Mathlib.Omega.{arith}
 use lib.ListN.{length, length-append}
 use Rattle.elf.specs.Strings.{addString, addStrings}
-use Rattle.elf.proofs.Strings.{sizeOf}
-
--- strings in a row
-abbrev pub joined : List (List ℕ) → List ℕ
-joined [] = []
-joined (s ∷ ss) = (s ++ (0 ∷ [])) ++ joined ss
-
--- their places behind a table of `n` bytes
-abbrev pub placesAt : ℕ → List (List ℕ) → List ℕ
-placesAt n [] = []
-placesAt n (s ∷ ss) = n ∷ placesAt (n + suc (length s)) ss
+use Rattle.elf.specs.Row.{joined, placesAt, sizeOf}
 
 pub table-joined : (t : List ℕ) (ss : List (List ℕ)) → addStrings t ss .table ≡ t ++ joined ss
 table-joined t [] = sym (append-nil t)

@@ -7,6 +7,7 @@ use native.Mathlib.Omega.{arith}
 use lib.ListN.{length, drop, length-append, length-drop}
 use lib.Seq.{drop-append-seam, drop-append-le}
 use Rattle.elf.specs.Strings.{addString, addStrings}
+use Rattle.elf.specs.Row.{sizeOf}
 
 -- ---- a string at a place
 
@@ -64,11 +65,6 @@ stand-length t [] [] a = refl
 stand-length t [] (s ∷ ss) a = absurd a
 stand-length t (p ∷ ps) [] a = absurd a
 stand-length t (p ∷ ps) (s ∷ ss) a = ap suc (stand-length t ps ss (a .1))
-
--- the bytes that strings take, each with its zero byte
-abbrev pub sizeOf : List (List ℕ) → ℕ
-sizeOf [] = 0
-sizeOf (s ∷ ss) = suc (length s) + sizeOf ss
 
 pub size-append : (xs ys : List (List ℕ)) → sizeOf (xs ++ ys) ≡ sizeOf xs + sizeOf ys
 size-append [] ys = omega arith

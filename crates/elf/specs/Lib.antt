@@ -2,3 +2,4 @@ pub mod Strings
 pub mod Elf
 pub mod Added
 pub mod Entries
+pub mod Row

@@ -7,7 +7,8 @@ use lib.ListN.{length, take, drop, getD}
 use borrow.Author.Tests.{eq-eqb, ne-eqb}
 use Rattle.octets.specs.Octets.{ascii}
 use Rattle.octets.specs.Over.{over}
-use Rattle.elf.proofs.Joined.{joined, length-string}
+use Rattle.elf.specs.Row.{joined}
+use Rattle.elf.proofs.Joined.{length-string}
 use Rattle.object.specs.declared.Program.{Program}
 use Rattle.object.specs.Tables.{noProgram}
 use Rattle.object.specs.Read.{nameIn}

@@ -13,7 +13,8 @@ use Rattle.octets.specs.Over.{over}
 use Rattle.octets.proofs.Filling.{Filling, fill-start, fill-as, fill-on, fill-done, over-part}
 use Rattle.ast.specs.Job.{Map}
 use Rattle.elf.specs.Strings.{emptyTable}
-use Rattle.elf.proofs.Joined.{joined, table-joined, joined-append}
+use Rattle.elf.specs.Row.{joined}
+use Rattle.elf.proofs.Joined.{table-joined, joined-append}
 use Rattle.object.specs.declared.Slot.{Slot}
 use Rattle.object.specs.declared.Program.{Program}
 use Rattle.object.specs.declared.BpfObject.{BpfObject}

@@ -1,18 +1,16 @@
-// `.shstrtab`, the names of the object's sections in their order, and the section header table.
+// `.shstrtab`, the names of the object's sections in their order.
 ghost use mathlib.Core.Path.{_≡_};
 ghost use mathlib.Core.List.{[], _∷_, _++_};
 ghost use Prim.Native.Nat.{_+_, _*_, _≤_};
 ghost use lib.ListN.{length, take};
 ghost use Rattle.octets.specs.Octets.{ascii};
 ghost use Rattle.octets.specs.Over.{over};
-ghost use Rattle.elf.proofs.Joined.{joined};
+ghost use Rattle.elf.specs.Row.{joined};
 ghost use Rattle.object.specs.Read.{nameIn, jobIn};
 ghost use Rattle.object.specs.Kept.{Named, Kept};
 ghost use Rattle.strtab.specs.Rows.{ProgramsThere};
 ghost use Rattle.headers.specs.Names.{mapSectionNames, programSectionNames, tableNames, shstrtabOf};
-ghost use Rattle.headers.specs.Headers.{headersBytes};
 use ast::Name;
-use elf::Section;
 use object::BpfObject;
 use object::Program;
 
@@ -101,20 +99,4 @@ pub fn put_shstrtab(out: &mut [u8], text: &[u8], object: BpfObject)
     let at = put_map_sections(out, 9, object.map_count);
     let behind = put_program_sections(out, at, text, programs, object.program_count);
     put_table_names(out, behind);
-}
-
-// The section header table: the headers of the first `count` sections, into a part of exactly its size.
-pub fn put_headers(out: &mut [u8], table: [Section; 71], count: usize)
-    requires { ⌜ count ≤ 71 ⌝ }
-    requires { ⌜ length (now out) ≡ 64 * count ⌝ }
-    ensures { λ _. ⌜ now (out .exit) ≡ headersBytes (take count table) ⌝ }
-{
-    let mut at: usize = 0;
-    let mut i = 0;
-    while i < count {
-        let section = table[i];
-        section.put(&mut out[at..at + 64]);
-        at += 64;
-        i += 1;
-    }
 }

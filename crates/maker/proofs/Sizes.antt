@@ -3,19 +3,19 @@ use mathlib.Core.Path.{_≡_, refl, sym, _∙_, ap}
 use mathlib.Core.List.{List, [], _∷_, _++_, map, map-append, append-nil, append-assoc}
 use Prim.Native.Nat.{ℕ, suc, _+_, _-_, _*_, _≤_, _<_}
 use native.Mathlib.Omega.{arith}
-use lib.ListN.{length, take, length-append, replicate, length-replicate}
-use lib.Seq.{length-take-le, take-at}
+use lib.ListN.{length, take, drop, length-append, length-replicate}
+use lib.Seq.{length-take-le}
 use borrow.Rule.Slice.PartMut.{putMid}
 use Rattle.octets.specs.Octets.{zeros}
 use Rattle.octets.specs.Over.{over}
+use Rattle.octets.proofs.Laws.{over-taken}
 use Rattle.octets.proofs.Filling.{Filling, fill-start, fill-as, fill-on, fill-done, over-part}
 use Rattle.octets.proofs.Lists.{All}
 use Rattle.ast.specs.Job.{Job}
 use Rattle.elf.specs.Strings.{addStrings, emptyTable}
 use Rattle.elf.specs.Elf.{Section, alignTo, endOf, padding, laid, fileHeader, headerBytes, nullHeader, sectionHeaders, file}
-use Rattle.elf.specs.Entries.{nullSection}
-use Rattle.elf.specs.declared.Section as code
-use Rattle.elf.proofs.Joined.{places-at, placesAt}
+use Rattle.elf.specs.Row.{placesAt}
+use Rattle.elf.proofs.Joined.{places-at}
 use Rattle.elf.proofs.Places.{align-up, length-laid}
 use Rattle.btf.specs.Btf.{btfBytes, addTypes, start, finished}
 use Rattle.btf.specs.Maps.{mapTypes, btfTypes}
@@ -33,14 +33,15 @@ use Rattle.contents.proofs.Slots.{licence-length}
 use Rattle.strtab.specs.Rows.{strtabOf}
 use Rattle.headers.specs.Names.{sectionNames}
 use Rattle.headers.specs.Headers.{headersBytes}
+use Rattle.headers.proofs.Headers.{headers-length}
 use Rattle.members.specs.Section.{roomsOf}
 use Rattle.spans.proofs.Decls.{rooms-size}
 use Rattle.measure.specs.declared.Sizes.{Sizes}
 use Rattle.measure.specs.declared.Measured.{Measured}
 use Rattle.measure.specs.Measured.{SizesOf, Small, sectionsOf, tableSections, rowsOf, rowsFrom, measuredOf}
 use Rattle.measure.proofs.Whole.{aligned, object-length}
-use Rattle.sections.specs.Pieces.{allPieces, Placed}
-use Rattle.sections.proofs.Alike.{alike-all, alike-laid, alike-length, alike-aligned, alike-placed, rows-placed, rows-headers, rows-count}
+use Rattle.sections.specs.Pieces.{allPieces}
+use Rattle.sections.proofs.Alike.{alike-all, alike-laid, alike-aligned, rows-headers, rows-count}
 
 module _ (text : List ℕ) (o : BpfObject) (k : Kept text o) where
   pub rooms : (room : ℕ) → room ≡ roomsOf (take (o .«map_count») (o .maps)) → mapTypes 6 0 (declaredMaps text o) .size ≡ room
@@ -93,19 +94,6 @@ module _ (text : List ℕ) (o : BpfObject) (k : Kept text o) where
           → fileHeader (alignTo 8 e) c m ++ (l ++ (padding 8 e ++ (z ++ (h ++ [])))) ≡ fileHeader (alignTo 8 e′) c m ++ (l′ ++ (padding 8 e′ ++ ((z ++ h′) ++ [])))
       pieces l l′ e e′ c m z h h′ p q r = rw (p, q, r, append-assoc z h′ [])
 
-  pub pieces-placed : Placed (measuredOf (jobIn text o) .table) 1 64 (allPieces text o)
-  pieces-placed =
-      let ss = sectionsOf (jobIn text o) in
-      alike-placed (measuredOf (jobIn text o) .table) 1 64 ss (allPieces text o) (alike-all text o k) (rows-placed (nullSection ∷ []) 1 64 ss (replicate (71 - suc (length ss)) nullSection))
-
-  pub pieces-counted : measuredOf (jobIn text o) .count ≡ 1 + length (allPieces text o)
-  pieces-counted = omega (arith, alike-length (sectionsOf (jobIn text o)) (allPieces text o) (alike-all text o k))
-
-  pub table-taken : take (measuredOf (jobIn text o) .count) (measuredOf (jobIn text o) .table) ≡ rowsOf (jobIn text o)
-  table-taken =
-      let ss = sectionsOf (jobIn text o) in
-      take-at (rowsOf (jobIn text o)) (replicate (71 - suc (length ss)) nullSection) (suc (length ss)) (ap suc (rows-count 1 64 ss))
-
   -- the object filled piece by piece, by the measured numbers
   module _ (m : Measured) (e : m ≡ measuredOf (jobIn text o)) where
     abbrev after₁ : List ℕ
@@ -151,14 +139,18 @@ module _ (text : List ℕ) (o : BpfObject) (k : Kept text o) where
         omega (arith, ap length (sym p), length-replicate {A = ℕ} (m .at - end) 0, ends-before, g) in
         fill-on (padding 8 (endOf 64 (allPieces text o))) (headers ++ []) (putMid end (m .at - end) out l) (m .at) f (over-part out end (m .at) l (padding 8 (endOf 64 (allPieces text o))) (sym n) (q ∙ p)) n
 
-    pub headers-filled : (out l : List ℕ) → Filling (object (jobIn text o)) out (m .at) (headers ++ []) → l ≡ headersBytes (take (m .count) (m .table))
+    -- the headers that were measured
+    pub headers-long : length headers ≡ 64 * m .count
+    headers-long = headers-length (rowsOf (jobIn text o)) ∙ ap (λ (x : ℕ). 64 * x) (ap suc (rows-count 1 64 (sectionsOf (jobIn text o))) ∙ sym count-is)
+
+    pub headers-filled : (out l : List ℕ) → Filling (object (jobIn text o)) out (m .at) (headers ++ []) → l ≡ headers
         → putMid (m .at) (m .at + 64 * m .count - m .at) out l ≡ object (jobIn text o)
     headers-filled out l f q =
-        let t : headersBytes (take (m .count) (m .table)) ≡ headers = ap headersBytes (ap (λ (x : Measured). take (x .count) (x .table)) e ∙ table-taken) in
-        let n : length headers ≡ 64 * m .count = rows-long (rowsOf (jobIn text o)) ∙ ap (λ (x : ℕ). 64 * x) (ap suc (rows-count 1 64 (sectionsOf (jobIn text o))) ∙ sym count-is) in
         fill-done (fill-on headers [] (putMid (m .at) (m .at + 64 * m .count - m .at) out l) (m .at + 64 * m .count) f
-        (over-part out (m .at) (m .at + 64 * m .count) l headers (ap (λ (x : ℕ). m .at + x) n) (q ∙ t)) (ap (λ (x : ℕ). m .at + x) (sym n)))
-      where
-        rows-long : (ss : List code.Section) → length (headersBytes ss) ≡ 64 * length ss
-        rows-long [] = refl
-        rows-long (s ∷ ss) = omega (arith, rows-long ss)
+        (over-part out (m .at) (m .at + 64 * m .count) l headers (ap (λ (x : ℕ). m .at + x) headers-long) q) (ap (λ (x : ℕ). m .at + x) (sym headers-long)))
+
+-- what was written over the front of a table is its front
+pub table-front : (d l t : List ℕ) (n : ℕ) → l ≡ over d 0 t → n ≡ length t → take (n - 0) (drop 0 l) ≡ t
+table-front d l t n e h =
+    let k : n - 0 ≡ 0 + length t = omega (arith, h) in
+    rw (k, e) (over-taken d 0 t (omega arith))

@@ -1,17 +1,17 @@
 // `make`: a whole object or one refusal. The object is measured first; then each section writer is lent its own part of the output, from the
 // section's place to its end, and what lies between two sections is cleared.
 ghost use mathlib.Core.Path.{_≡_};
-ghost use Prim.Native.Nat.{_+_, _-_, _*_, _≤_, _<_};
-ghost use lib.ListN.{length, take};
-ghost use Rattle.object.specs.Read.{licenceIn, jobIn};
+ghost use Prim.Native.Nat.{_≤_};
+ghost use lib.ListN.{length};
+ghost use Rattle.object.specs.Read.{declaredMaps, jobIn};
 ghost use Rattle.object.specs.Kept.{Kept};
 ghost use Rattle.object.specs.Object as whole;
 ghost use Rattle.job.specs.Answer.{answer, fitted, outputAfter};
 ghost use Rattle.maker.specs.Made.{outcomeOf, outcome};
-ghost use Rattle.measure.specs.Measured.{measuredOf, SizesOf, Small};
+ghost use Rattle.headers.specs.Headers.{headersBytes};
+ghost use Rattle.measure.specs.Measured.{rowsOf, measuredOf, SizesOf, Small};
 ghost use Rattle.btf.specs.Btf.{addTypes, start};
 ghost use Rattle.btf.specs.Maps.{btfTypes};
-ghost use Rattle.object.specs.Read.{declaredMaps};
 use btf::BtfBuilder;
 use job::Parsing;
 use measure::Measured;
@@ -50,23 +50,25 @@ fn weigh(text: &[u8], object: BpfObject) -> Weighed
     }
 }
 
-// The whole object, into a part of exactly its length.
+// The whole object, into a part of exactly its length. The headers of its sections are measured before.
 fn write(
     out: &mut [u8],
     text: &[u8],
+    rows: &[u8],
     object: BpfObject,
     measured: Measured,
-    license: usize,
+    sizes: Sizes,
     types: usize,
 )
     requires { ⌜ Kept (now text) object ⌝ }
-    requires { ⌜ (license ≡ length (licenceIn (now text) (object .license))) × (license ≤ 64) ⌝ }
+    requires { ⌜ SizesOf (jobIn (now text) object) sizes ⌝ }
+    requires { ⌜ Small sizes ⌝ }
     requires { ⌜ types ≡ length (addTypes (btfTypes (declaredMaps (now text) object)) start .types) ⌝ }
     requires { ⌜ measured ≡ measuredOf (jobIn (now text) object) ⌝ }
-    requires { ⌜ length (now out) ≡ length (whole.object (jobIn (now text) object)) ⌝ }
+    requires { ⌜ now rows ≡ headersBytes (rowsOf (jobIn (now text) object)) ⌝ }
+    requires { ⌜ (length (now out) ≡ length (whole.object (jobIn (now text) object))) × (length (now out) ≤ 200000000) ⌝ }
     ensures { λ _. ⌜ now (out .exit) ≡ whole.object (jobIn (now (text .entry)) object) ⌝ }
 {
-    let table = measured.table;
     let count = measured.count;
     elf::put_file_header(
         &mut out[0..64],
@@ -74,11 +76,11 @@ fn write(
         count as u16,
         (count - 1) as u16,
     );
-    let end = sections::write_sections(out, text, object, table, count, license, types);
+    let end = sections::write_sections(out, text, object, sizes, measured.names, types);
     let at = measured.at as usize;
     octets::clear(&mut out[end..at]);
     let behind = at + 64 * count;
-    headers::put_headers(&mut out[at..behind], table, count);
+    octets::copy(&mut out[at..behind], rows);
 }
 
 // What `make` answers: how long the object is that stands in the output, or the one refusal.
@@ -95,17 +97,20 @@ fn build(text: &[u8], out: &mut [u8], object: BpfObject) -> Making
 {
     let weighed = weigh(text, object);
     let sizes = weighed.sizes;
-    let measured = measure::measure(text, object, sizes);
+    let mut table = [0u8; 4544];
+    let measured = measure::measure(text, &mut table, object, sizes);
     let len = measured.len;
     if out.len() < len {
         return Making::Refused(Refusal::NoRoom(len));
     }
+    let headers = 64 * measured.count;
     write(
         &mut out[0..len],
         text,
+        &table[0..headers],
         object,
         measured,
-        sizes.license,
+        sizes,
         weighed.types,
     );
     Making::Made(len)

@@ -1,74 +1,92 @@
--- One program more in the table: its section, and its REL section where it has relocations.
+-- One program's headers more, and then those of all programs: a program's section, and its REL section where it has relocations.
 use mathlib.Core.Path.{_≡_, refl, sym, _∙_, ap, subst}
-use mathlib.Core.List.{List, [], _∷_, _++_}
-use Prim.Native.Nat.{ℕ, zero, suc, _+_, _-_, _*_, _≤_, _<_}
+use mathlib.Core.Bool.{Bool, true, false, cond}
+use mathlib.Core.List.{List, [], _∷_, _++_, append-assoc, append-nil}
+use Prim.Native.Nat.{ℕ, suc, _+_, _*_, _≤_}
 use native.Mathlib.Omega.{arith}
-use native.Mathlib.Numerals.{add-one}
-use lib.ListN.{length, take, drop, getD, length-append}
+use lib.ListN.{length, length-append}
+use lib.Dec.{eqb, eqb·suc-zero}
+use borrow.Author.Tests.{eq-eqb}
 use Rattle.octets.specs.Octets.{ascii}
 use Rattle.ast.specs.Job.{Map, Relocation}
 use Rattle.ast.specs.Job as job
-use Rattle.elf.specs.Elf.{Section, place, headerFor}
+use Rattle.elf.specs.Elf.{Section}
 use Rattle.elf.specs.declared.Section as code
 use Rattle.object.specs.declared.Program.{Program}
-use Rattle.object.specs.Tables.{noProgram}
 use Rattle.object.specs.Object.{plain, relSections, past, programSections, relocationBytes}
 use Rattle.object.proofs.Counts.{length-relocations}
 use Rattle.measure.specs.declared.Measuring.{Measuring}
-use Rattle.measure.specs.Measured.{withSection, plainAt, relAt, sectionOf, Rows, Low, Same, AllSame}
-use Rattle.measure.proofs.Table.{rows-on}
+use Rattle.measure.specs.Measured.{withSection, relAt, codeAt, coded, relOf, programmed, programRow, afterPrograms, programRows}
+use Rattle.measure.proofs.Table.{Rows, rows-on}
 
--- the program at `i` of a job and of the tables
-pub record Here (js : List job.Program) (i : ℕ) (p : Program) : Type 0 where
-  pub it : job.Program
-  pub next : drop i js ≡ it ∷ drop (i + 1) js
-  pub same : Same it p
+-- the programs of a job are those of the tables, as far as measuring goes
+pub record Same (j : job.Program) (p : Program) : Type 0 where
+  pub section : length (j .section) ≡ p .section .len
+  pub code : length (j .code) ≡ p .«code_len»
+  pub relocations : length (j .relocations) ≡ p .relocs
 
-find : (js : List job.Program) (ps : List Program) (n i : ℕ) → AllSame js (take n ps) → i < n → n ≤ length ps
-    → (it : job.Program) × (drop i js ≡ it ∷ drop (suc i) js) × Same it (getD ps i noProgram)
-find js ps zero i a h l = absurd (omega arith)
-find js [] (suc n) i a h l = absurd (omega arith)
-find [] (p ∷ ps) (suc n) i a h l = absurd a
-find (j ∷ js) (p ∷ ps) (suc n) zero a h l = (j, refl, a .0)
-find (j ∷ js) (p ∷ ps) (suc n) (suc i) a h l = find js ps n i (a .1) (omega arith) (omega arith)
-
-pub here : (js : List job.Program) (ps : List Program) (n i : ℕ) → AllSame js (take n ps) → i < n → n ≤ length ps → Here js i (getD ps i noProgram)
-here js ps n i a h l = let f = find js ps n i a h l in record { it = f .0; next = rw (add-one i) (f .1); same = f .2 }
-
-pub none-left : (js : List job.Program) (ps : List Program) (n i : ℕ) → AllSame js (take n ps) → n ≤ i → drop i js ≡ []
-none-left [] ps n i a h = go i
-  where
-    go : (k : ℕ) → drop {A = job.Program} k [] ≡ []
-    go zero = refl
-    go (suc k) = refl
-none-left (j ∷ js) ps zero i a h = absurd a
-none-left (j ∷ js) [] (suc n) i a h = absurd a
-none-left (j ∷ js) (p ∷ ps) (suc n) zero a h = absurd (omega arith)
-none-left (j ∷ js) (p ∷ ps) (suc n) (suc i) a h = none-left js ps n i (a .1) (omega arith)
+abbrev pub AllSame : List job.Program → List Program → Type 0
+AllSame [] [] = Unit
+AllSame [] (p ∷ ps) = ⊥
+AllSame (j ∷ js) [] = ⊥
+AllSame (j ∷ js) (p ∷ ps) = Same j p × AllSame js ps
 
 module _ (all : List Section) (ms : List Map) (symtab : ℕ) (rest : List Section) where
-  -- the program's own section
-  pub code-row : (m : Measuring) (j : job.Program) (js : List job.Program) (p : Program) → Same j p
-      → Rows all m (programSections ms symtab (m .count) (j ∷ js) ++ rest) → m .count < 71 → length (m .table) ≡ 71
-      → Rows all (withSection m (plainAt (m .names) 1 6 (m .end) 8 (p .«code_len»)) (p .section .len))
-      (relSections ms symtab (m .count) (j .section) (j .relocations) ++ programSections ms symtab (past (j .relocations) (m .count)) js ++ rest)
-  code-row m j js p s r h long =
-      rows-on (plain (j .section) 6 8 (j .code)) _ (plainAt (m .names) 1 6 (m .end) 8 (p .«code_len»)) (p .section .len) r h long (rw (s .code)) (sym (s .section))
+  -- the program's own section, and then the REL section by its relocations
+  rel-rows : (rows : List code.Section) (m : Measuring) (p : Program) (name : List ℕ) (rs : List Relocation) (js : List job.Program)
+      → length rs ≡ p .relocs → length name ≡ p .section .len
+      → Rows all (rows ++ (codeAt m p ∷ [])) (coded m p) (relSections ms symtab (m .count) name rs ++ programSections ms symtab (past rs (m .count)) js ++ rest)
+      → Rows all (rows ++ programRow m symtab p) (programmed m symtab p) (programSections ms symtab (programmed m symtab p .count) js ++ rest)
+  rel-rows rows m p name [] js e l r =
+      let none : eqb (p .relocs) 0 ≡ true = eq-eqb (p .relocs) 0 (sym e) in
+      let one : m .count + 1 ≡ suc (m .count) = omega arith in
+      rw none (subst (λ (k : ℕ). Rows all (rows ++ (codeAt m p ∷ [])) (coded m p) (programSections ms symtab k js ++ rest)) (sym one) r)
+  rel-rows rows m p name (x ∷ rs) js e l r =
+      let some : eqb (p .relocs) 0 ≡ false = ap (λ (n : ℕ). eqb n 0) (sym e) ∙ eqb·suc-zero (length rs) in
+      let two : m .count + 1 + 1 ≡ suc (suc (m .count)) = omega arith in
+      let size : 16 * p .relocs ≡ length (relocationBytes ms (x ∷ rs)) = omega (arith, length-relocations ms (x ∷ rs), e) in
+      let on =
+      rows-on (record { name = ascii ".rel" ++ name; kind = 9; flags = 0; align = 8; entry = 16; link = symtab; info = m .count; contents = relocationBytes ms (x ∷ rs) })
+      (programSections ms symtab (suc (suc (m .count))) js ++ rest) (relOf m symtab p) (p .section .len + 4) r (rw size) (omega (arith, l)) in
+      let both = subst (λ (rs : List code.Section). Rows all rs (withSection (coded m p) (relOf m symtab p) (p .section .len + 4)) (programSections ms symtab (suc (suc (m .count))) js ++ rest))
+      (append-assoc rows (codeAt m p ∷ []) (relOf m symtab p ∷ [])) on in
+      rw some (subst (λ (k : ℕ). Rows all (rows ++ (codeAt m p ∷ relOf m symtab p ∷ [])) (withSection (coded m p) (relOf m symtab p) (p .section .len + 4)) (programSections ms symtab k js ++ rest)) (sym two) both)
 
-  -- a program without relocations has no other
-  pub no-rel-row : (m : Measuring) (n : ℕ) (name : List ℕ) (rs : List Relocation) (js : List job.Program) → m .count ≡ n + 1 → length rs ≡ 0
-      → Rows all m (relSections ms symtab n name rs ++ programSections ms symtab (past rs n) js ++ rest) → Rows all m (programSections ms symtab (m .count) js ++ rest)
-  no-rel-row m n name [] js c e r = let one : m .count ≡ suc n = omega (arith, c) in subst (λ (k : ℕ). Rows all m (programSections ms symtab k js ++ rest)) (sym one) r
-  no-rel-row m n name (x ∷ rs) js c e r = absurd (omega arith)
+  rows-program : (rows : List code.Section) (m : Measuring) (j : job.Program) (js : List job.Program) (p : Program) → Same j p
+      → Rows all rows m (programSections ms symtab (m .count) (j ∷ js) ++ rest)
+      → Rows all (rows ++ programRow m symtab p) (programmed m symtab p) (programSections ms symtab (programmed m symtab p .count) js ++ rest)
+  rows-program rows m j js p s r =
+      rel-rows rows m p (j .section) (j .relocations) js (s .relocations) (s .section)
+      (rows-on (plain (j .section) 6 8 (j .code)) _ (codeAt m p) (p .section .len) r (rw (s .code)) (sym (s .section)))
 
-  -- one with relocations has a REL section
-  pub rel-row : (m : Measuring) (n : ℕ) (name : List ℕ) (rs : List Relocation) (js : List job.Program) (relocs len : ℕ) → m .count ≡ n + 1 → length rs ≡ relocs → (relocs ≡ 0 → ⊥) → length name ≡ len
-      → Rows all m (relSections ms symtab n name rs ++ programSections ms symtab (past rs n) js ++ rest) → m .count < 71 → length (m .table) ≡ 71
-      → Rows all (withSection m (relAt (m .names) (m .end) relocs symtab n) (len + 4)) (programSections ms symtab (m .count + 1) js ++ rest)
-  rel-row m n name [] js relocs len c e z l r h long = absurd (z (sym e))
-  rel-row m n name (x ∷ rs) js relocs len c e z l r h long =
-      let two : m .count + 1 ≡ suc (suc n) = omega (arith, c) in
-      let size : 16 * relocs ≡ length (relocationBytes ms (x ∷ rs)) = omega (arith, length-relocations ms (x ∷ rs), e) in
-      subst (λ (k : ℕ). Rows all (withSection m (relAt (m .names) (m .end) relocs symtab n) (len + 4)) (programSections ms symtab k js ++ rest)) (sym two)
-      (rows-on (record { name = ascii ".rel" ++ name; kind = 9; flags = 0; align = 8; entry = 16; link = symtab; info = n; contents = relocationBytes ms (x ∷ rs) })
-      (programSections ms symtab (suc (suc n)) js ++ rest) (relAt (m .names) (m .end) relocs symtab n) (len + 4) r h long (rw size) (omega (arith, l)))
+  pub rows-programs : (rows : List code.Section) (m : Measuring) (js : List job.Program) (ps : List Program) → AllSame js ps
+      → Rows all rows m (programSections ms symtab (m .count) js ++ rest) → Rows all (rows ++ programRows m symtab ps) (afterPrograms m symtab ps) rest
+  rows-programs rows m [] [] s r = rw append-nil r
+  rows-programs rows m [] (p ∷ ps) s r = absurd s
+  rows-programs rows m (j ∷ js) [] s r = absurd s
+  rows-programs rows m (j ∷ js) (p ∷ ps) s r =
+      subst (λ (xs : List code.Section). Rows all xs (afterPrograms (programmed m symtab p) symtab ps) rest)
+      (append-assoc rows (programRow m symtab p) (programRows (programmed m symtab p) symtab ps))
+      (rows-programs (rows ++ programRow m symtab p) (programmed m symtab p) js ps (s .1) (rows-program rows m j js p (s .0) r))
+
+-- a program has at most two headers
+row-few : (m : Measuring) (symtab : ℕ) (p : Program) → (length (programRow m symtab p) ≤ 2) × (programmed m symtab p .count ≡ m .count + length (programRow m symtab p))
+row-few m symtab p = go (eqb (p .relocs) 0)
+  where
+    go : (b : Bool) → (length {A = code.Section} (codeAt m p ∷ cond b [] (relOf m symtab p ∷ [])) ≤ 2)
+        × (cond b (coded m p) (withSection (coded m p) (relOf m symtab p) (p .section .len + 4)) .count ≡ m .count + length {A = code.Section} (codeAt m p ∷ cond b [] (relOf m symtab p ∷ [])))
+    go true = (omega arith, refl)
+    go false = (omega arith, omega arith)
+
+pub rows-few : (m : Measuring) (symtab : ℕ) (ps : List Program) → length (programRows m symtab ps) ≤ 2 * length ps
+rows-few m symtab [] = omega arith
+rows-few m symtab (p ∷ ps) =
+    omega (arith, length-append (programRow m symtab p) (programRows (programmed m symtab p) symtab ps), row-few m symtab p .0, rows-few (programmed m symtab p) symtab ps)
+
+pub row-count : (m : Measuring) (symtab : ℕ) (p : Program) → programmed m symtab p .count ≡ m .count + length (programRow m symtab p)
+row-count m symtab p = row-few m symtab p .1
+
+pub rows-count : (m : Measuring) (symtab : ℕ) (ps : List Program) → afterPrograms m symtab ps .count ≡ m .count + length (programRows m symtab ps)
+rows-count m symtab [] = omega arith
+rows-count m symtab (p ∷ ps) =
+    omega (arith, length-append (programRow m symtab p) (programRows (programmed m symtab p) symtab ps), row-few m symtab p .1, rows-count (programmed m symtab p) symtab ps)

@@ -1,13 +1,13 @@
--- The table of sections that the code measures, by the definitions of the object: each section's header, in order, behind header 0.
+-- What measuring finds, by the definitions of the object: each section's header, in order behind header 0, how many there are, where they
+-- stand, and how long the object is.
 use mathlib.Core.Path.{_≡_}
 use mathlib.Core.Bool.{cond}
 use lib.Dec.{eqb}
 use mathlib.Core.List.{List, [], _∷_, _++_, map}
-use Prim.Native.Nat.{ℕ, suc, _+_, _-_, _*_, _≤_}
-use lib.ListN.{length, take, drop, set, replicate}
+use Prim.Native.Nat.{ℕ, suc, _+_, _*_, _≤_}
+use lib.ListN.{length}
 use Rattle.octets.specs.Octets.{ascii}
 use Rattle.ast.specs.Job.{Job}
-use Rattle.ast.specs.Job as job
 use Rattle.elf.specs.Strings.{addStrings, emptyTable}
 use Rattle.elf.specs.Elf.{Section, Header, alignTo, place, after, endOf, headerFor}
 use Rattle.elf.specs.Entries.{nullSection}
@@ -22,11 +22,10 @@ use Rattle.measure.specs.declared.Measuring.{Measuring}
 use Rattle.measure.specs.declared.Measured.{Measured}
 use Rattle.measure.specs.declared.Sizes.{Sizes}
 
--- ---- steps of the code
+-- ---- steps of the code: the sections so far, and the rows of the header table
 
 abbrev pub withSection : Measuring → code.Section → ℕ → Measuring
-withSection m s name =
-    record { table = set (m .table) (m .count) s; count = m .count + 1; end = s .at + s .size; names = m .names + name + 1 }
+withSection m s name = record { count = m .count + 1; end = s .at + s .size; names = m .names + name + 1 }
 
 abbrev pub plainAt : ℕ → ℕ → ℕ → ℕ → ℕ → ℕ → code.Section
 plainAt name kind flags end align size =
@@ -42,34 +41,86 @@ behindAll (p ∷ ps) at = behindAll ps (behind (p .relocs) at)
 
 -- header 0 alone: the sections begin behind the file header, and the names behind the table's first zero byte
 abbrev pub begun : Measuring
-begun = record { table = replicate 71 nullSection; count = 1; end = 64; names = 1 }
+begun = record { count = 1; end = 64; names = 1 }
 
--- a section without link, info and entry size more
-abbrev pub plus : Measuring → ℕ → ℕ → ℕ → ℕ → ℕ → Measuring
-plus m name kind flags align size = withSection m (plainAt (m .names) kind flags (m .end) align size) name
+-- a section without link, info and entry size, behind those that are there
+abbrev pub plainOn : Measuring → ℕ → ℕ → ℕ → ℕ → code.Section
+plainOn m kind flags align size = plainAt (m .names) kind flags (m .end) align size
 
 -- what stands before the programs' sections: the licence, and `.maps` and `.BTF` where there are maps
+abbrev pub licenceAt : Sizes → code.Section
+licenceAt z = plainOn begun 1 3 1 (z .license + 1)
+
 abbrev pub licensed : Sizes → Measuring
-licensed z = plus begun 7 1 3 1 (z .license + 1)
+licensed z = withSection begun (licenceAt z) 7
+
+abbrev pub mapsAt : Sizes → code.Section
+mapsAt z = plainOn (licensed z) 1 3 8 (z .maps)
+
+abbrev pub roomed : Sizes → Measuring
+roomed z = withSection (licensed z) (mapsAt z) 5
+
+abbrev pub btfAt : Sizes → code.Section
+btfAt z = plainOn (roomed z) 1 0 4 (z .btf)
 
 abbrev pub mapped : Sizes → Measuring
-mapped z = plus (plus (licensed z) 5 1 3 8 (z .maps)) 4 1 0 4 (z .btf)
+mapped z = withSection (roomed z) (btfAt z) 4
 
 abbrev pub front : Sizes → ℕ → Measuring
 front z maps = cond (eqb maps 0) (licensed z) (mapped z)
+
+abbrev pub frontRows : Sizes → ℕ → List code.Section
+frontRows z maps = nullSection ∷ licenceAt z ∷ cond (eqb maps 0) [] (mapsAt z ∷ btfAt z ∷ [])
+
+-- a program's section, and its REL section where it has relocations
+abbrev pub codeAt : Measuring → Program → code.Section
+codeAt m p = plainOn m 1 6 8 (p .«code_len»)
+
+abbrev pub coded : Measuring → Program → Measuring
+coded m p = withSection m (codeAt m p) (p .section .len)
+
+abbrev pub relOf : Measuring → ℕ → Program → code.Section
+relOf m symtab p = relAt (coded m p .names) (coded m p .end) (p .relocs) symtab (m .count)
+
+abbrev pub programmed : Measuring → ℕ → Program → Measuring
+programmed m symtab p = cond (eqb (p .relocs) 0) (coded m p) (withSection (coded m p) (relOf m symtab p) (p .section .len + 4))
+
+abbrev pub programRow : Measuring → ℕ → Program → List code.Section
+programRow m symtab p = codeAt m p ∷ cond (eqb (p .relocs) 0) [] (relOf m symtab p ∷ [])
+
+-- the programs' sections
+abbrev pub afterPrograms : Measuring → ℕ → List Program → Measuring
+afterPrograms m symtab [] = m
+afterPrograms m symtab (p ∷ ps) = afterPrograms (programmed m symtab p) symtab ps
+
+abbrev pub programRows : Measuring → ℕ → List Program → List code.Section
+programRows m symtab [] = []
+programRows m symtab (p ∷ ps) = programRow m symtab p ++ programRows (programmed m symtab p) symtab ps
 
 -- the three tables behind the programs' sections
 abbrev pub symtabAt : Measuring → ℕ → code.Section
 symtabAt m symbols =
     record { name = m .names; «sh_type» = 2; flags = 0; at = alignTo 8 (m .end); size = 24 * symbols; link = m .count + 1; info = 1; align = 8; entsize = 24 }
 
+abbrev pub withSymbols : Measuring → ℕ → Measuring
+withSymbols m symbols = withSection m (symtabAt m symbols) 7
+
+abbrev pub strtabAt : Measuring → ℕ → ℕ → code.Section
+strtabAt m symbols strtab = plainOn (withSymbols m symbols) 3 0 1 strtab
+
 abbrev pub withStrings : Measuring → ℕ → ℕ → Measuring
-withStrings m symbols strtab = plus (withSection m (symtabAt m symbols) 7) 7 3 0 1 strtab
+withStrings m symbols strtab = withSection (withSymbols m symbols) (strtabAt m symbols strtab) 7
+
+abbrev pub shstrtabAt : Measuring → ℕ → ℕ → code.Section
+shstrtabAt m symbols strtab = plainOn (withStrings m symbols strtab) 3 0 1 (withStrings m symbols strtab .names + 10)
 
 abbrev pub tabled : Measuring → ℕ → ℕ → Measuring
-tabled m symbols strtab = let n = withStrings m symbols strtab in plus n 9 3 0 1 (n .names + 10)
+tabled m symbols strtab = withSection (withStrings m symbols strtab) (shstrtabAt m symbols strtab) 9
 
--- ---- the table by the definitions
+abbrev pub tableRows : Measuring → ℕ → ℕ → List code.Section
+tableRows m symbols strtab = symtabAt m symbols ∷ strtabAt m symbols strtab ∷ shstrtabAt m symbols strtab ∷ []
+
+-- ---- the headers by the definitions
 
 -- a header as the code has it
 abbrev pub sectionOf : Header → code.Section
@@ -104,13 +155,14 @@ sectionsOf j = declaredSections j ++ tableSections j
 abbrev pub rowsOf : Job → List code.Section
 rowsOf j = nullSection ∷ rowsFrom 1 64 (sectionsOf j)
 
--- what measuring answers: the table, which has 71 places, how many headers there are, where they stand in the file, and its length
+-- what measuring answers: how many headers there are, where they stand in the file, how long the names of the sections are, and how long the
+-- file is
 abbrev pub measuredOf : Job → Measured
 measuredOf j =
     record {
-      table = rowsOf j ++ replicate (71 - suc (length (sectionsOf j))) nullSection;
       count = suc (length (sectionsOf j));
       at = alignTo 8 (endOf 64 (sectionsOf j));
+      names = length (shstrtabOf j);
       len = length (object j);
     }
 
@@ -127,36 +179,8 @@ pub record Small (z : Sizes) : Type 0 where
   pub btf : z .btf ≤ 1000000
   pub strtab : z .strtab ≤ 10000
 
--- ---- what measuring keeps
-
--- the bytes that strings take, each with its zero byte
-abbrev pub sizes : List (List ℕ) → ℕ
-sizes [] = 0
-sizes (s ∷ ss) = suc (length s) + sizes ss
-
--- `all` are the sections of the object, and `rest` those that are still to be measured
-pub record Rows (all : List Section) (m : Measuring) (rest : List Section) : Type 0 where
-  pub is : nullSection ∷ rowsFrom 1 64 all ≡ take (m .count) (m .table) ++ rowsFrom (m .names) (m .end) rest
-  pub nulls : drop (m .count) (m .table) ≡ replicate (71 - m .count) nullSection
-  pub counted : m .count + length rest ≡ suc (length all)
-  pub ends : endOf (m .end) rest ≡ endOf 64 all
-  pub named : m .names + sizes (map (λ s. s .name) rest) ≡ 1 + sizes (map (λ s. s .name) all)
-
 -- at most `n` sections so far, and numbers that are far below what their types hold
 pub record Low (n : ℕ) (m : Measuring) : Type 0 where
   pub few : m .count ≤ n
-  pub long : length (m .table) ≡ 71
   pub near : m .end ≤ 2097152 * m .count
   pub short : m .names ≤ 300 * m .count
-
--- the programs of a job are those of the tables, as far as measuring goes
-pub record Same (j : job.Program) (p : Program) : Type 0 where
-  pub section : length (j .section) ≡ p .section .len
-  pub code : length (j .code) ≡ p .«code_len»
-  pub relocations : length (j .relocations) ≡ p .relocs
-
-abbrev pub AllSame : List job.Program → List Program → Type 0
-AllSame [] [] = Unit
-AllSame [] (p ∷ ps) = ⊥
-AllSame (j ∷ js) [] = ⊥
-AllSame (j ∷ js) (p ∷ ps) = Same j p × AllSame js ps

@@ -1,17 +1,16 @@
-// Measuring: the table of the object's sections, with place, size and all that a header has, and the object's length. Nothing of the output
-// is needed for it. The order is that of the writers.
+// Measuring: the headers of the object's sections, with place, size and all else that a header has, into a lent table; how many there are,
+// and how long the object is. Nothing of the output is needed for it. The order is that of the writers.
 ghost use mathlib.Core.Path.{_≡_};
-ghost use mathlib.Core.List.{List, [], _∷_, _++_};
-ghost use Prim.Native.Nat.{_+_, _*_, _≤_, _<_, _^_};
+ghost use mathlib.Core.List.{[], _∷_};
+ghost use Prim.Native.Nat.{ℕ, suc, _+_, _*_, _≤_, _<_, _^_};
 ghost use lib.ListN.{length, take};
-ghost use Rattle.elf.specs.Elf as elf;
+ghost use Rattle.octets.specs.Over.{over};
+ghost use Rattle.elf.specs.Entries.{nullSection};
 ghost use Rattle.elf.specs.Added.{Alignment};
-ghost use Rattle.strtab.specs.Rows.{behind};
-ghost use Rattle.ast.specs.Job as job;
-ghost use Rattle.object.specs.Object.{programSections};
 ghost use Rattle.object.specs.Read.{jobIn};
 ghost use Rattle.object.specs.Kept.{Kept};
-ghost use Rattle.measure.specs.Measured.{withSection, plainAt, relAt, behindAll, begun, Rows, Low, AllSame, plus, front, tabled, measuredOf, SizesOf, Small};
+ghost use Rattle.headers.specs.Headers.{headersBytes};
+ghost use Rattle.measure.specs.Measured.{withSection, plainAt, plainOn, relAt, behindAll, begun, Low, front, frontRows, programmed, programRow, afterPrograms, programRows, tabled, tableRows, rowsOf, measuredOf, SizesOf, Small};
 use elf::Section;
 use object::BpfObject;
 use object::Program;
@@ -24,35 +23,36 @@ pub struct Sizes {
     pub strtab: usize,
 }
 
-// The table of sections, of which the first `count` are there, header 0 counted; where the header table stands; and the object's length.
+// How many headers there are, header 0 counted; where the header table stands; how long the sections' names are; and the object's length.
 pub struct Measured {
-    pub table: [Section; 71],
     pub count: usize,
     pub at: u64,
+    pub names: usize,
     pub len: usize,
 }
 
 // The sections so far: their number, header 0 counted, where they end, and how long their names are.
 struct Measuring {
-    table: [Section; 71],
     count: usize,
     end: u64,
     names: usize,
 }
 
-// One section more, whose name has `name` bytes.
-fn add_section(mut m: Measuring, section: Section, name: usize) -> Measuring
-    requires { ⌜ (m .count < 71) × (length (m .table) ≡ 71) ⌝ }
+// One section more, whose name has `name` bytes: its header goes behind those that are there.
+fn add_section(table: &mut [u8], m: Measuring, section: Section, name: usize) -> Measuring
+    requires { ⌜ (m .count < 71) × (length (now table) ≡ 4544) ⌝ }
     requires { ⌜ section .at + section .size < 2 ^ 64 ⌝ }
     requires { ⌜ m .names + name + 1 < 2 ^ 64 ⌝ }
+    ensures { λ _. ⌜ now (table .exit) ≡ over (now (table .entry)) (64 * m .count) (headersBytes (section ∷ [])) ⌝ }
     ensures { λ r. ⌜ r ≡ withSection m section name ⌝ }
 {
-    let n = m.count;
-    m.table[n] = section;
-    m.count = n + 1;
-    m.end = section.at + section.size;
-    m.names = m.names + name + 1;
-    m
+    let row = 64 * m.count;
+    section.put(&mut table[row..row + 64]);
+    Measuring {
+        count: m.count + 1,
+        end: section.at + section.size,
+        names: m.names + name + 1,
+    }
 }
 
 // A section without link, info and entry size, behind those that end at `end`.
@@ -114,20 +114,49 @@ fn number_behind(first: usize, programs: [Program; 32], count: usize) -> usize
 }
 
 // Header 0 alone.
-fn begin() -> Measuring
+fn begin(table: &mut [u8]) -> Measuring
+    requires { ⌜ length (now table) ≡ 4544 ⌝ }
+    ensures { λ _. ⌜ now (table .exit) ≡ over (now (table .entry)) 0 (headersBytes (nullSection ∷ [])) ⌝ }
     ensures { λ r. ⌜ r ≡ begun ⌝ }
 {
-    let null = Section::null();
+    Section::null().put(&mut table[0..64]);
     Measuring {
-        table: [null; 71],
         count: 1,
         end: 64,
         names: 1,
     }
 }
 
-// The programs' sections, each with its REL section where it has relocations; `symtab` is the number of the symbol table's section.
+// A program's section, and its REL section where it has relocations; `symtab` is the number of the symbol table's section.
+fn measure_program(table: &mut [u8], m: Measuring, program: Program, symtab: usize) -> Measuring
+    requires { ⌜ Low 68 m ⌝ }
+    requires { ⌜ length (now table) ≡ 4544 ⌝ }
+    requires { ⌜ symtab ≤ 68 ⌝ }
+    ensures { λ _. ⌜ now (table .exit) ≡ over (now (table .entry)) (64 * m .count) (headersBytes (programRow m symtab program)) ⌝ }
+    ensures { λ r. ⌜ r ≡ programmed m symtab program ⌝ }
+    ensures { λ r. ⌜ ((n : ℕ) → Low n m → Low (suc (suc n)) r) ⌝ }
+{
+    let len = program.section.len as usize;
+    let relocs = program.relocs;
+    let code = plain(
+        m.names,
+        Section::SHT_PROGBITS,
+        6,
+        m.end,
+        8,
+        program.code_len as usize,
+    );
+    let coded = add_section(table, m, code, len);
+    if relocs == 0 {
+        return coded;
+    }
+    let entries = rel(coded.names, coded.end, relocs, symtab, m.count);
+    add_section(table, coded, entries, len + 4)
+}
+
+// The programs' sections.
 fn measure_programs(
+    table: &mut [u8],
     start: Measuring,
     programs: [Program; 32],
     count: usize,
@@ -135,38 +164,25 @@ fn measure_programs(
 ) -> Measuring
     requires { ⌜ Low 4 start ⌝ }
     requires { ⌜ (count ≤ 32) × (length programs ≡ 32) ⌝ }
+    requires { ⌜ length (now table) ≡ 4544 ⌝ }
     requires { ⌜ symtab ≤ 68 ⌝ }
+    ensures { λ _. ⌜ now (table .exit) ≡ over (now (table .entry)) (64 * start .count) (headersBytes (programRows start symtab (take count programs))) ⌝ }
+    ensures { λ r. ⌜ r ≡ afterPrograms start symtab (take count programs) ⌝ }
     ensures { λ r. ⌜ Low (4 + 2 * count) r ⌝ }
-    ensures { λ r. ⌜ ((all : List elf.Section) (ms : List job.Map) (js : List job.Program) (rest : List elf.Section) → AllSame js (take count programs)
-        → Rows all start (programSections ms symtab (start .count) js ++ rest) → Rows all r rest) ⌝ }
 {
     let mut m = start;
     let mut i = 0;
     while i < count {
         let program = programs[i];
-        let len = program.section.len as usize;
-        let relocs = program.relocs;
-        let number = m.count;
-        let code = plain(
-            m.names,
-            Section::SHT_PROGBITS,
-            6,
-            m.end,
-            8,
-            program.code_len as usize,
-        );
-        m = add_section(m, code, len);
+        m = measure_program(table, m, program, symtab);
         i += 1;
-        if relocs != 0 {
-            let entries = rel(m.names, m.end, relocs, symtab, number);
-            m = add_section(m, entries, len + 4);
-        }
     }
     m
 }
 
 // A section without link, info and entry size more, whose name has `name` bytes.
 fn add_plain(
+    table: &mut [u8],
     m: Measuring,
     name: usize,
     sh_type: u32,
@@ -175,32 +191,47 @@ fn add_plain(
     size: usize,
 ) -> Measuring
     requires { ⌜ Low 70 m ⌝ }
+    requires { ⌜ length (now table) ≡ 4544 ⌝ }
     requires { ⌜ Alignment align ⌝ }
     requires { ⌜ (size ≤ 2000000) × (name ≤ 260) ⌝ }
-    ensures { λ r. ⌜ r ≡ plus m name «sh_type» flags align size ⌝ }
+    ensures { λ _. ⌜ now (table .exit) ≡ over (now (table .entry)) (64 * m .count) (headersBytes (plainOn m «sh_type» flags align size ∷ [])) ⌝ }
+    ensures { λ r. ⌜ r ≡ withSection m (plainOn m «sh_type» flags align size) name ⌝ }
 {
     let section = plain(m.names, sh_type, flags, m.end, align, size);
-    add_section(m, section, name)
+    add_section(table, m, section, name)
 }
 
 // What stands before the programs' sections: the licence, and `.maps` and `.BTF` where there are maps.
-fn measure_front(sizes: Sizes, maps: usize) -> Measuring
+fn measure_front(table: &mut [u8], sizes: Sizes, maps: usize) -> Measuring
     requires { ⌜ Small sizes ⌝ }
+    requires { ⌜ length (now table) ≡ 4544 ⌝ }
+    ensures { λ _. ⌜ now (table .exit) ≡ over (now (table .entry)) 0 (headersBytes (frontRows sizes maps)) ⌝ }
     ensures { λ r. ⌜ r ≡ front sizes maps ⌝ }
 {
-    let licensed = add_plain(begin(), 7, Section::SHT_PROGBITS, 3, 1, sizes.license + 1);
+    let null = begin(table);
+    let licensed = add_plain(
+        table,
+        null,
+        7,
+        Section::SHT_PROGBITS,
+        3,
+        1,
+        sizes.license + 1,
+    );
     if maps == 0 {
         return licensed;
     }
-    let with_maps = add_plain(licensed, 5, Section::SHT_PROGBITS, 3, 8, sizes.maps);
-    add_plain(with_maps, 4, Section::SHT_PROGBITS, 0, 4, sizes.btf)
+    let with_maps = add_plain(table, licensed, 5, Section::SHT_PROGBITS, 3, 8, sizes.maps);
+    add_plain(table, with_maps, 4, Section::SHT_PROGBITS, 0, 4, sizes.btf)
 }
 
 // The three tables behind the programs' sections: `.symtab`, `.strtab` and `.shstrtab`, which holds its own name too.
-fn measure_tables(m: Measuring, symbols: usize, strtab: usize) -> Measuring
+fn measure_tables(table: &mut [u8], m: Measuring, symbols: usize, strtab: usize) -> Measuring
     requires { ⌜ Low 68 m ⌝ }
+    requires { ⌜ length (now table) ≡ 4544 ⌝ }
     requires { ⌜ symbols ≤ 98 ⌝ }
     requires { ⌜ strtab ≤ 10000 ⌝ }
+    ensures { λ _. ⌜ now (table .exit) ≡ over (now (table .entry)) (64 * m .count) (headersBytes (tableRows m symbols strtab)) ⌝ }
     ensures { λ r. ⌜ r ≡ tabled m symbols strtab ⌝ }
 {
     let at = elf::align_to(m.end, 8);
@@ -215,17 +246,20 @@ fn measure_tables(m: Measuring, symbols: usize, strtab: usize) -> Measuring
         align: 8,
         entsize: 24,
     };
-    let with_symbols = add_section(m, symtab, 7);
-    let with_strings = add_plain(with_symbols, 7, Section::SHT_STRTAB, 0, 1, strtab);
+    let with_symbols = add_section(table, m, symtab, 7);
+    let with_strings = add_plain(table, with_symbols, 7, Section::SHT_STRTAB, 0, 1, strtab);
     let size = with_strings.names + 10;
-    add_plain(with_strings, 9, Section::SHT_STRTAB, 0, 1, size)
+    add_plain(table, with_strings, 9, Section::SHT_STRTAB, 0, 1, size)
 }
 
-// The object of the tables, measured. The text is that of which the tables are; the sizes are those of its sections.
-pub fn measure(text: &[u8], object: BpfObject, sizes: Sizes) -> Measured
+// The object of the tables, measured, and the headers of its sections at the front of `table`. The text is that of which the tables are;
+// the sizes are those of its sections.
+pub fn measure(text: &[u8], table: &mut [u8], object: BpfObject, sizes: Sizes) -> Measured
     requires { ⌜ Kept (now text) object ⌝ }
     requires { ⌜ SizesOf (jobIn (now text) object) sizes ⌝ }
     requires { ⌜ Small sizes ⌝ }
+    requires { ⌜ length (now table) ≡ 4544 ⌝ }
+    ensures { λ _. ⌜ now (table .exit) ≡ over (now (table .entry)) 0 (headersBytes (rowsOf (jobIn (now (text .entry)) object))) ⌝ }
     ensures { λ r. ⌜ r ≡ measuredOf (jobIn (now (text .entry)) object) ⌝ }
     ensures { λ r. ⌜ r .len ≤ 200000000 ⌝ }
 {
@@ -234,15 +268,14 @@ pub fn measure(text: &[u8], object: BpfObject, sizes: Sizes) -> Measured
     let count = object.program_count;
     let first = symbols::first_program(maps);
     let symtab = number_behind(first, programs, count);
-    let before = measure_front(sizes, maps);
-    let declared = measure_programs(before, programs, count, symtab);
-    let whole = measure_tables(declared, 2 + maps + count, sizes.strtab);
+    let before = measure_front(table, sizes, maps);
+    let declared = measure_programs(table, before, programs, count, symtab);
+    let whole = measure_tables(table, declared, 2 + maps + count, sizes.strtab);
     let at = elf::align_to(whole.end, 8);
-    let table = whole.table;
     Measured {
-        table,
         count: whole.count,
         at,
+        names: whole.names,
         len: at as usize + 64 * whole.count,
     }
 }

@@ -1,5 +1,4 @@
--- The sections of the definitions and those that the tables give agree in alignment and contents; so their layout is the same, and the
--- measured table has the places and sizes of both.
+-- The sections of the definitions and those that the tables give agree in alignment and contents; so their layout is the same.
 use mathlib.Core.Path.{_≡_, refl, sym, _∙_, ap}
 use mathlib.Core.Bool.{Bool, true, false, cond}
 use mathlib.Core.List.{List, [], _∷_, _++_, map, append-assoc}
@@ -15,7 +14,7 @@ use Rattle.ast.specs.Job as job
 use Rattle.elf.specs.Elf.{Section, place, after, endOf, laid, headerBytes, sectionHeaders, headerFor}
 use Rattle.elf.specs.Entries.{nullSection}
 use Rattle.elf.specs.declared.Section as code
-use Rattle.elf.proofs.Joined.{placesAt}
+use Rattle.elf.specs.Row.{placesAt}
 use Rattle.elf.proofs.Places.{Aligned}
 use Rattle.object.specs.declared.Slot.{Slot}
 use Rattle.object.specs.declared.Program.{Program}
@@ -28,7 +27,7 @@ use Rattle.contents.proofs.Slots.{slots-resolved, part-resolved, resolved-place
 use Rattle.strtab.proofs.Whole.{count-declared, programs-there}
 use Rattle.headers.specs.Headers.{headersBytes}
 use Rattle.measure.specs.Measured.{sectionOf, rowsFrom, rowsOf, sectionsOf, tableSections}
-use Rattle.sections.specs.Pieces.{bare, relPiece, programPieces, mapPieces, tablePieces, allPieces, noSection, Placed, AllSlotted}
+use Rattle.sections.specs.Pieces.{bare, relPiece, programPieces, mapPieces, tablePieces, allPieces, AllSlotted}
 
 abbrev pub Alike : List Section → List Section → Type 0
 Alike [] [] = Unit
@@ -41,14 +40,6 @@ alike-laid end [] [] a = (refl, refl)
 alike-laid end [] (y ∷ ys) a = absurd a
 alike-laid end (x ∷ xs) [] a = absurd a
 alike-laid end (x ∷ xs) (y ∷ ys) a = let r = alike-laid (after end y) xs ys (a .2) in rw (a .0, a .1) (rw (r .0), r .1)
-
-pub alike-placed : (table : List code.Section) (n end : ℕ) (xs ys : List Section) → Alike xs ys → Placed table n end xs → Placed table n end ys
-alike-placed table n end [] [] a p = tt
-alike-placed table n end [] (y ∷ ys) a p = absurd a
-alike-placed table n end (x ∷ xs) [] a p = absurd a
-alike-placed table n end (x ∷ xs) (y ∷ ys) a p =
-    let p′ = rw (a .0, a .1) at p in
-    (p′ .0, p′ .1, alike-placed table (n + 1) (after end y) xs ys (a .2) (p′ .2))
 
 pub alike-append : (xs ys us vs : List Section) → Alike xs ys → Alike us vs → Alike (xs ++ us) (ys ++ vs)
 alike-append [] [] us vs a b = b
@@ -112,23 +103,9 @@ module _ (text : List ℕ) (o : BpfObject) (k : Kept text o) where
       (alike-programs (pastAll (jobIn text o .programs) first) first (take (o .«program_count») (o .programs)) (k .programs)) (refl, refl, (refl, refl, (refl, refl, tt))) in
       (refl, refl, rw (append-assoc (mapSections ms) ps (tableSections (jobIn text o))) (alike-append (mapSections ms) (mapPieces (o .«map_count») ms) (ps ++ tableSections (jobIn text o)) (programPieces text (o .slots) (take (o .«program_count») (o .programs)) ++ tablePieces (jobIn text o)) mp tail))
 
--- ---- the measured table
+-- ---- the headers
 
-get-behind : (pre : List code.Section) (x : code.Section) (rest : List code.Section) → getD (pre ++ (x ∷ rest)) (length pre) noSection ≡ x
-get-behind [] x rest = refl
-get-behind (p ∷ pre) x rest = get-behind pre x rest
-
-pub rows-placed : (pre : List code.Section) (names end : ℕ) (ss : List Section) (tail : List code.Section) → Placed (pre ++ (rowsFrom names end ss ++ tail)) (length pre) end ss
-rows-placed pre names end [] tail = tt
-rows-placed pre names end (s ∷ ss) tail =
-    let x = sectionOf (headerFor names (place end s) s) in
-    let rest = rowsFrom (names + suc (length (s .name))) (after end s) ss ++ tail in
-    let g = get-behind pre x rest in
-    let n : length (pre ++ (x ∷ [])) ≡ length pre + 1 = length-append pre (x ∷ []) in
-    let r = rw (n, append-assoc pre (x ∷ []) rest) at (rows-placed (pre ++ (x ∷ [])) (names + suc (length (s .name))) (after end s) ss tail) in
-    (ap (λ (y : code.Section). y .at) g, ap (λ (y : code.Section). y .size) g, r)
-
--- the headers of the table are those of the file
+-- those that are measured are those of the file
 pub rows-headers : (names end : ℕ) (ss : List Section) → sectionHeaders (placesAt names (map (λ s. s .name) ss)) end ss ≡ headersBytes (rowsFrom names end ss)
 rows-headers names end [] = refl
 rows-headers names end (s ∷ ss) = ap (λ (r : List ℕ). headerBytes (headerFor names (place end s) s) ++ r) (rows-headers (names + suc (length (s .name))) (after end s) ss)

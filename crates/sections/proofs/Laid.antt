@@ -5,13 +5,13 @@ use Prim.Native.Nat.{ℕ, _+_, _-_, _*_, _≤_, _<_}
 use native.Mathlib.Omega.{arith}
 use lib.ListN.{length, take, drop, length-append, length-replicate}
 use borrow.Rule.Slice.PartMut.{putMid, mid-len}
-use Rattle.octets.specs.Octets.{zeros}
 use Rattle.octets.specs.Over.{over}
 use Rattle.octets.proofs.Laws.{over-length}
 use Rattle.octets.proofs.Filling.{over-part, over-two}
-use Rattle.octets.proofs.Lists.{All}
 use Rattle.elf.specs.Elf.{Section, alignTo, place, after, endOf, padding, laid}
-use Rattle.elf.proofs.Places.{Aligned, align-up, length-laid}
+use Rattle.elf.specs.Added.{Alignment, one, four, eight}
+use Rattle.elf.proofs.Places.{align-up}
+use Rattle.sections.specs.Pieces.{Fits}
 
 pub laid-append : (end : ℕ) (xs ys : List Section) → laid end (xs ++ ys) ≡ laid end xs ++ laid (endOf end xs) ys
 laid-append end [] ys = refl
@@ -29,21 +29,38 @@ end-append end (x ∷ xs) ys = end-append (after end x) xs ys
 pub place-up : (end : ℕ) (s : Section) → 0 < s .align → end ≤ place end s
 place-up end s h = align-up (s .align) end h
 
--- one section: what lies before its place `sat` cleared, and its contents written into its part
-module _ (d d₁ l : List ℕ) (end at sat size : ℕ) (s : Section) (positive : 0 < s .align) (near : end ≤ length d) (there : sat ≡ place end s) (it : at ≡ sat) (long : size ≡ length (s .contents)) where
-  pub lay : d₁ ≡ over d end (zeros (sat - end)) → l ≡ s .contents → putMid at (at + size - at) d₁ l ≡ over d end (laid end (s ∷ []))
-  lay p q =
-      let up = place-up end s positive in
-      let n : at ≡ end + length (zeros (sat - end)) = omega (arith, it, there, up, length-replicate {A = ℕ} (sat - end) 0) in
-      let e : zeros (sat - end) ++ s .contents ≡ laid end (s ∷ []) = ap (λ (x : ℕ). zeros (x - end) ++ s .contents) there ∙ ap (λ (r : List ℕ). padding (s .align) end ++ r) (sym (append-nil (s .contents))) in
-      over-two d end (zeros (sat - end)) (s .contents) d₁ _ at near p n (over-part d₁ at (at + size) l (s .contents) (ap (λ (x : ℕ). at + x) (sym long)) q) ∙ ap (over d end) e
+-- the alignments are positive and at most 8
+pub small : {a : ℕ} → Alignment a → (0 < a) × (a ≤ 8)
+small one = (omega arith, omega arith)
+small four = (omega arith, omega arith)
+small eight = (omega arith, omega arith)
 
-  pub lay-end : at + size ≡ endOf end (s ∷ [])
-  lay-end = omega (arith, it, there, long)
+-- one section that has its place: what lies before it is cleared, and its contents are written into its part
+module _ {d : List ℕ} {end size : ℕ} {s : Section} (f : Fits d end size s) where
+  up : end ≤ place end s
+  up = place-up end s (small (f .aligned) .0)
 
-  pub lay-part : d₁ ≡ over d end (zeros (sat - end)) → sat + size ≤ length d → length (take (at + size - at) (drop at d₁)) ≡ length (s .contents)
-  lay-part p h =
-      let up = place-up end s positive in
-      let n : length d₁ ≡ length d = ap length p ∙ over-length d end (zeros (sat - end)) (omega (arith, there, up, length-replicate {A = ℕ} (sat - end) 0)) in
-      let k : at + size - at ≡ size = omega arith in
-      mid-len at (at + size) d₁ (omega (arith, n, it)) ∙ k ∙ long
+  pub fits-pad : (alignTo (s .align) end ≤ length d) × (length d ≤ 200000000)
+  fits-pad = (omega (arith, f .room), f .short)
+
+  pub fits-add : {at : ℕ} → at ≡ place end s → at + size ≤ length d
+  fits-add it = omega (arith, it, f .room)
+
+  pub fits-after : {at : ℕ} → at ≡ place end s → at + size ≡ endOf end (s ∷ [])
+  fits-after it = omega (arith, it, f .long)
+
+  padded : length (padding (s .align) end) ≡ place end s - end
+  padded = length-replicate {A = ℕ} (place end s - end) 0
+
+  module _ (d₁ : List ℕ) {at : ℕ} (it : at ≡ place end s) (cleared : d₁ ≡ over d end (padding (s .align) end)) where
+    pub fits-part : length (take (at + size - at) (drop at d₁)) ≡ length (s .contents)
+    fits-part =
+        let n : length d₁ ≡ length d = ap length cleared ∙ over-length d end (padding (s .align) end) (omega (arith, padded, up, f .room)) in
+        let k : at + size - at ≡ size = omega arith in
+        mid-len at (at + size) d₁ (omega (arith, n, it, f .room)) ∙ k ∙ f .long
+
+    pub fits-lay : (l : List ℕ) → l ≡ s .contents → putMid at (at + size - at) d₁ l ≡ over d end (laid end (s ∷ []))
+    fits-lay l q =
+        let n : at ≡ end + length (padding (s .align) end) = omega (arith, it, padded, up) in
+        over-two d end (padding (s .align) end) (s .contents) d₁ _ at (omega (arith, up, f .room)) cleared n (over-part d₁ at (at + size) l (s .contents) (ap (λ (x : ℕ). at + x) (sym (f .long))) q)
+        ∙ ap (over d end) (ap (λ (r : List ℕ). padding (s .align) end ++ r) (sym (append-nil (s .contents))))

@@ -1,5 +1,4 @@
--- Writing sections one behind the other, by the measured table: what is kept before each section, and what one section, or a row of them,
--- does to it.
+-- Writing sections one behind the other: what is kept before each section, and what one section, or a row of them, does to it.
 use mathlib.Core.Path.{_≡_, refl, sym, _∙_, ap}
 use mathlib.Core.Bool.{Bool, true, false, cond}
 use mathlib.Core.List.{List, [], _∷_, _++_}
@@ -16,53 +15,49 @@ use Rattle.btf.specs.Btf.{btfBytes}
 use Rattle.btf.specs.Maps.{mapTypes, btfTypes}
 use Rattle.octets.proofs.Lists.{All, all-append}
 use Rattle.elf.specs.Elf.{Section, place, after, endOf, laid}
-use Rattle.elf.specs.declared.Section as code
+use Rattle.elf.specs.Added.{Alignment}
 use Rattle.elf.proofs.Places.{Aligned, end-after, length-laid}
 use Rattle.object.specs.declared.Slot.{Slot}
 use Rattle.object.specs.declared.Program.{Program}
 use Rattle.object.specs.Read.{codeOf, body}
 use Rattle.contents.specs.Slots.{slotsBytes, AllPlaced}
 use Rattle.contents.proofs.Slots.{slots-length}
-use Rattle.named.proofs.Going.{Going, go-start, go-as, go-room, go-on, go-done}
-use Rattle.sections.specs.Pieces.{bare, relPiece, programPieces, mapPieces, noSection, Placed, AllSlotted}
-use Rattle.strtab.specs.Rows.{firstOf}
+use Rattle.named.proofs.Going.{Going, go-start, go-as, go-on, go-done}
+use Rattle.sections.specs.Pieces.{bare, relPiece, programPieces, mapPieces, Fits, AllSlotted}
 use Rattle.sections.proofs.Laid.{laid-append, end-append}
 
--- `all` are to be written from `start` on over `d`; those before section `n` are, up to `end`, and `rest` is to come
-pub record Turn (table : List code.Section) (d : List ℕ) (start : ℕ) (all : List Section) (out : List ℕ) (end n : ℕ) (rest : List Section) : Type 0 where
-  pub placed : Placed table n end rest
+-- `all` are to be written from `start` on over `d`; they are written up to `end`, and `rest` is to come
+pub record Turn (d : List ℕ) (start : ℕ) (all : List Section) (out : List ℕ) (end : ℕ) (rest : List Section) : Type 0 where
   pub going : Going d start (laid start all) out end (laid end rest)
   pub ends : endOf end rest ≡ endOf start all
   pub aligned : All Aligned rest
 
-pub turn-start : (table : List code.Section) (d : List ℕ) (start n : ℕ) (all : List Section) → Placed table n start all → All Aligned all → endOf start all ≤ length d
-    → Turn table d start all d start n all
-turn-start table d start n all p a h =
-    record { placed = p; going = go-start d start (laid start all) (omega (arith, length-laid start all a)); ends = refl; aligned = a }
+pub turn-start : (d : List ℕ) (start : ℕ) (all : List Section) → All Aligned all → endOf start all ≤ length d → Turn d start all d start all
+turn-start d start all a h = record { going = go-start d start (laid start all) (omega (arith, length-laid start all a)); ends = refl; aligned = a }
 
-module _ {table : List code.Section} {d : List ℕ} {start : ℕ} {all : List Section} {out : List ℕ} {end n : ℕ} where
-  -- the next section has room
-  pub turn-room : (s : Section) (rest : List Section) → Turn table d start all out end n (s ∷ rest) → after end s ≤ length out
-  turn-room s rest t =
+module _ {d : List ℕ} {start : ℕ} {all : List Section} {out : List ℕ} {end : ℕ} where
+  -- the next section has its place
+  pub turn-fits : (size : ℕ) (s : Section) (rest : List Section) → Turn d start all out end (s ∷ rest) → Alignment (s .align) → size ≡ length (s .contents) → length d ≤ 200000000
+      → Fits out end size s
+  turn-fits size s rest t a n short =
       let later = end-after (after end s) rest (t .aligned .1) in
       let l = length-laid end (s ∷ rest) (t .aligned) in
-      omega (arith, t .going .left, t .going .room, t .going .same)
+      record { aligned = a; long = n; room = omega (arith, n, t .going .left, t .going .room, t .going .same); short = omega (arith, t .going .same) }
 
   -- one section more
-  pub turn-on : (s : Section) (rest : List Section) (out′ : List ℕ) (end′ n′ : ℕ) → Turn table d start all out end n (s ∷ rest)
-      → out′ ≡ over out end (laid end (s ∷ [])) → end′ ≡ endOf end (s ∷ []) → n′ ≡ n + 1 → Turn table d start all out′ end′ n′ rest
-  turn-on s rest out′ end′ n′ t e g k =
+  pub turn-on : (s : Section) (rest : List Section) (out′ : List ℕ) (end′ : ℕ) → Turn d start all out end (s ∷ rest)
+      → out′ ≡ over out end (laid end (s ∷ [])) → end′ ≡ endOf end (s ∷ []) → Turn d start all out′ end′ rest
+  turn-on s rest out′ end′ t e g =
       let one : All Aligned (s ∷ []) = (t .aligned .0, tt) in
       let len : end′ ≡ end + length (laid end (s ∷ [])) = g ∙ sym (length-laid end (s ∷ []) one) in
-      rw (g, k)
+      rw g
       (record {
-        placed = t .placed .2;
         going = go-on (laid end (s ∷ [])) (laid (after end s) rest) out′ (after end s) (go-as _ (laid-append end (s ∷ []) rest) (t .going)) e (sym g ∙ len);
         ends = t .ends;
         aligned = t .aligned .1;
       })
 
-  pub turn-done : Turn table d start all out end n [] → (out ≡ over d start (laid start all)) × (end ≡ endOf start all)
+  pub turn-done : Turn d start all out end [] → (out ≡ over d start (laid start all)) × (end ≡ endOf start all)
   turn-done t = (go-done (t .going) .0, t .ends)
 
 -- ---- programs
@@ -101,35 +96,20 @@ pub some-maps : (count : ℕ) (ms : List Map) → (count ≡ 0 → ⊥)
     → mapPieces count ms ≡ bare 8 (zeros (mapTypes 6 0 ms .size)) ∷ bare 4 (btfBytes (btfTypes ms)) ∷ []
 some-maps count ms e = rw (ne-eqb count 0 e)
 
--- a section of zeros that is as long as the table says
-pub zeros-piece : (out out′ : List ℕ) (end end′ size n : ℕ) → size ≡ length (zeros n) → out′ ≡ over out end (laid end (bare 8 (zeros size) ∷ [])) → end′ ≡ endOf end (bare 8 (zeros size) ∷ [])
+-- a section of zeros, by its size
+pub zeros-piece : (out out′ : List ℕ) (end end′ size n : ℕ) → n ≡ size → out′ ≡ over out end (laid end (bare 8 (zeros size) ∷ [])) → end′ ≡ endOf end (bare 8 (zeros size) ∷ [])
     → (out′ ≡ over out end (laid end (bare 8 (zeros n) ∷ []))) × (end′ ≡ endOf end (bare 8 (zeros n) ∷ []))
-zeros-piece out out′ end end′ size n e p q =
-    let k : size ≡ n = e ∙ length-replicate n 0 in
-    (rw k at p, rw k at q)
+zeros-piece out out′ end end′ size n e p q = (rw e p, rw e q)
 
 -- ---- rows in a row
-
-placed-on : (table : List code.Section) (m e : ℕ) (xs ys : List Section) → Placed table m e (xs ++ ys) → Placed table (m + length xs) (endOf e xs) ys
-placed-on table m e [] ys p = let z : m + 0 ≡ m = omega arith in rw z p
-placed-on table m e (x ∷ xs) ys p =
-    let k : m + suc (length xs) ≡ m + 1 + length xs = omega arith in
-    rw k (placed-on table (m + 1) (after e x) xs ys (p .2))
-
-placed-part : (table : List code.Section) (m e : ℕ) (xs ys : List Section) → Placed table m e (xs ++ ys) → Placed table m e xs
-placed-part table m e [] ys p = tt
-placed-part table m e (x ∷ xs) ys p = (p .0, p .1, placed-part table (m + 1) (after e x) xs ys (p .2))
 
 aligned-both : (xs ys : List Section) → All Aligned (xs ++ ys) → All Aligned xs × All Aligned ys
 aligned-both [] ys a = (tt, a)
 aligned-both (x ∷ xs) ys a = let r = aligned-both xs ys (a .1) in ((a .0, r .0), r .1)
 
-module _ {table : List code.Section} {d : List ℕ} {start : ℕ} {all : List Section} {out : List ℕ} {end n : ℕ} where
-  -- a row has its places, and room
-  pub row-placed : (xs ys : List Section) → Turn table d start all out end n (xs ++ ys) → Placed table n end xs
-  row-placed xs ys t = placed-part table n end xs ys (t .placed)
-
-  pub row-room : (xs ys : List Section) → Turn table d start all out end n (xs ++ ys) → endOf end xs ≤ length out
+module _ {d : List ℕ} {start : ℕ} {all : List Section} {out : List ℕ} {end : ℕ} where
+  -- a row has room
+  pub row-room : (xs ys : List Section) → Turn d start all out end (xs ++ ys) → endOf end xs ≤ length out
   row-room xs ys t =
       let a = aligned-both xs ys (t .aligned) in
       let later = end-after (endOf end xs) ys (a .1) in
@@ -137,23 +117,14 @@ module _ {table : List code.Section} {d : List ℕ} {start : ℕ} {all : List Se
       omega (arith, t .going .left, t .going .room, t .going .same, end-append end xs ys)
 
   -- a row more
-  pub row-on : (xs ys : List Section) (out′ : List ℕ) (end′ n′ : ℕ) → Turn table d start all out end n (xs ++ ys)
-      → out′ ≡ over out end (laid end xs) → end′ ≡ endOf end xs → n′ ≡ n + length xs → Turn table d start all out′ end′ n′ ys
-  row-on xs ys out′ end′ n′ t e g k =
+  pub row-on : (xs ys : List Section) (out′ : List ℕ) (end′ : ℕ) → Turn d start all out end (xs ++ ys)
+      → out′ ≡ over out end (laid end xs) → end′ ≡ endOf end xs → Turn d start all out′ end′ ys
+  row-on xs ys out′ end′ t e g =
       let a = aligned-both xs ys (t .aligned) in
       let len : end′ ≡ end + length (laid end xs) = g ∙ sym (length-laid end xs (a .0)) in
-      rw (g, k)
+      rw g
       (record {
-        placed = placed-on table n end xs ys (t .placed);
         going = go-on (laid end xs) (laid (endOf end xs) ys) out′ (endOf end xs) (go-as _ (laid-append end xs ys) (t .going)) e (sym g ∙ len);
         ends = sym (end-append end xs ys) ∙ t .ends;
         aligned = a .1;
       })
-
--- the first program's section stands behind those of the maps
-pub first-index : (count : ℕ) (ms : List Map) → firstOf count ≡ 2 + length (mapPieces count ms)
-first-index count ms = go (eqb count 0)
-  where
-    go : (b : Bool) → cond b 2 4 ≡ 2 + length {A = Section} (cond b [] (bare 8 (zeros (mapTypes 6 0 ms .size)) ∷ bare 4 (btfBytes (btfTypes ms)) ∷ []))
-    go true = refl
-    go false = refl

@@ -1,13 +1,13 @@
--- The sections of an object by what the layout asks of them, alignment and contents, read off the tables; and that the measured table has
--- their places and sizes.
+-- The sections of an object by what the layout asks of them, alignment and contents, read off the tables; and that a section has its place
+-- in the output.
 use mathlib.Core.Path.{_≡_}
 use mathlib.Core.Bool.{cond}
 use mathlib.Core.List.{List, [], _∷_, _++_}
-use Prim.Native.Nat.{ℕ, _+_}
-use lib.ListN.{length, take, drop, getD}
+use Prim.Native.Nat.{ℕ, _+_, _≤_}
+use lib.ListN.{length, take, drop}
 use lib.Dec.{eqb}
-use Rattle.elf.specs.Elf.{Section, place, after}
-use Rattle.elf.specs.declared.Section as code
+use Rattle.elf.specs.Elf.{Section, place}
+use Rattle.elf.specs.Added.{Alignment}
 use Rattle.object.specs.declared.Slot.{Slot}
 use Rattle.object.specs.declared.Program.{Program}
 use Rattle.octets.specs.Octets.{zeros}
@@ -33,15 +33,12 @@ abbrev pub programPieces : List ℕ → List Slot → List Program → List Sect
 programPieces text slots [] = []
 programPieces text slots (p ∷ ps) = bare 8 (codeOf (body text (p .from) (p .lines))) ∷ relPiece text slots p ++ programPieces text slots ps
 
--- what is read where a table has no section
-abbrev pub noSection : code.Section
-noSection = record { name = 0; «sh_type» = 0; flags = 0; at = 0; size = 0; link = 0; info = 0; align = 0; entsize = 0 }
-
--- the table has, from section `n` on, the places and sizes of sections that stand from `end` on
-abbrev pub Placed : List code.Section → ℕ → ℕ → List Section → Type 0
-Placed table n end [] = Unit
-Placed table n end (s ∷ ss) =
-    (getD table n noSection .at ≡ place end s) × (getD table n noSection .size ≡ length (s .contents)) × Placed table (n + 1) (after end s) ss
+-- a section of `size` bytes has its place in `out` behind what ends at `end`, and the numbers are far below what their types hold
+pub record Fits (out : List ℕ) (end size : ℕ) (s : Section) : Type 0 where
+  pub aligned : Alignment (s .align)
+  pub long : size ≡ length (s .contents)
+  pub room : place end s + size ≤ length out
+  pub short : length out ≤ 200000000
 
 -- each program's slots have their offsets in the text
 abbrev pub AllSlotted : List ℕ → List Slot → List Program → Type 0

@@ -12,7 +12,7 @@ use Rattle.octets.proofs.Lists.{All, all-append, all-weaken}
 use Rattle.written.proofs.Names.{Clean, written-short, written-clean}
 use Rattle.ast.specs.Job.{Map, Relocation, Program, Job, lastMap}
 use Rattle.elf.specs.Elf.{Section, Symbol, after, endOf}
-use Rattle.elf.proofs.Strings.{sizeOf}
+use Rattle.elf.specs.Row.{sizeOf}
 use Rattle.elf.proofs.Rows.{length-symbols}
 use Rattle.elf.proofs.Places.{align-near}
 use Rattle.btf.specs.Btf.{btfBytes}

@@ -20,7 +20,7 @@ use Rattle.ast.specs.declared.CountAttr.{CountAttr}
 use Rattle.ast.specs.declared.CountAttr.the-variants as count
 use Rattle.object.specs.Read.{mapIn}
 use Rattle.object.specs.Tables.{noMap}
-use Rattle.elf.proofs.Joined.{joined}
+use Rattle.elf.specs.Row.{joined}
 use Rattle.named.specs.There.{MapsThere}
 use Rattle.named.proofs.Going.{Going, go-start, go-as, go-room, go-on, go-done, over-nothing}
 use Rattle.named.proofs.There.{maps-from, maps-end}

@@ -11,7 +11,8 @@ use Rattle.written.specs.Written.{written}
 use Rattle.ast.specs.Job.{Map}
 use Rattle.ast.specs.declared.MapDecl.{MapDecl}
 use Rattle.elf.specs.Elf.{Symbol, symbolBytes, symbolsBytes, symbolInfo}
-use Rattle.elf.proofs.Joined.{placesAt, joined, length-string}
+use Rattle.elf.specs.Row.{placesAt, joined}
+use Rattle.elf.proofs.Joined.{length-string}
 use Rattle.btf.specs.Maps.{mapSize}
 use Rattle.btf.proofs.MapTypes.{map-size}
 use Rattle.object.specs.declared.Program.{Program}

@@ -15,8 +15,8 @@ use Rattle.ast.specs.Job.{Map}
 use Rattle.ast.specs.declared.MapDecl.{MapDecl}
 use Rattle.elf.specs.Strings.{emptyTable}
 use Rattle.elf.specs.Elf.{Symbol, symbolBytes, symbolsBytes, symbolInfo, entryBytes, nullEntry}
-use Rattle.elf.proofs.Strings.{sizeOf}
-use Rattle.elf.proofs.Joined.{joined, table-joined, places-at, joined-append, length-joined}
+use Rattle.elf.specs.Row.{sizeOf, joined}
+use Rattle.elf.proofs.Joined.{table-joined, places-at, joined-append, length-joined}
 use Rattle.btf.specs.Maps.{mapSize}
 use Rattle.object.specs.declared.Slot.{Slot}
 use Rattle.object.specs.declared.Program.{Program}

@@ -5,7 +5,7 @@ use Prim.Native.Nat.{_-_, _≤_}
 use native.Mathlib.Omega.{arith}
 use lib.ListN.{length, take}
 use borrow.Author.Needs.{needs}
-use Rattle.elf.proofs.Joined.{joined}
+use Rattle.elf.specs.Row.{joined}
 use Rattle.named.proofs.Going.{Going, go-start}
 use Rattle.named.proofs.There.{kept-program}
 use Rattle.strtab.specs.Rows.{ProgramsThere}

@@ -8,7 +8,7 @@ use borrow.Author.Needs.{needs}
 use borrow.Rule.Slice.PartMut.{mid-len}
 use Rattle.octets.specs.Octets.{zeros, ascii}
 use Rattle.octets.proofs.Filling.{fill-room}
-use Rattle.elf.proofs.Joined.{joined}
+use Rattle.elf.specs.Row.{joined}
 use Rattle.strtab.proofs.Whole.{programs-there}
 use Rattle.headers.specs.Names.{tableNames}
 use Rattle.headers.proofs.Whole.{shstrtab-some, names-zero, names-license, names-maps, names-programs, names-tables, mapNamed, programNamed}

@@ -1,13 +1,16 @@
 -- `maker::build` meets its contract. Assumes nothing.
 use mathlib.Core.Path.{_≡_, refl, sym, _∙_, ap}
-use Prim.Native.Nat.{ℕ, _+_, _-_, _≤_}
+use Prim.Native.Nat.{ℕ, suc, _+_, _-_, _*_, _≤_}
 use native.Mathlib.Omega.{arith}
 use lib.ListN.{length}
 use borrow.Author.Needs.{needs}
 use borrow.Rule.Slice.PartMut.{mid-len}
 use Rattle.object.specs.Read.{jobIn}
 use Rattle.object.specs.Object as whole
+use Rattle.headers.specs.Headers.{headersBytes}
 use Rattle.measure.specs.declared.Measured.{Measured}
+use Rattle.measure.specs.Measured.{rowsOf, measuredOf}
+use Rattle.maker.proofs.Sizes.{few-sections, count-is, headers-long, table-front}
 use Rattle.maker.proofs.Answered.{too-short, fits}
 use Rattle.maker.proofs.build.Statement.{statement}
 use Rattle.maker.proofs.build.Tie as tie
@@ -17,35 +20,52 @@ weigh-requires c κs = c .before .before .pre
 
 measure-requires : tie.Need-measure-requires
 measure-requires c κs =
-    let w = c .before in
+    let w = c .before .before in
     let p = w .before .before .before in
-    (p .pre, (w .weigh .ensures .0, w .weigh .ensures .1 .0))
+    (p .pre, (w .weigh .ensures .0, (w .weigh .ensures .1 .0, refl)))
 
--- the measured length is the object's
-long : (c : tie.After-measure) → let a = c .before .before .before .before .before .args in c .measure .result .len ≡ length (whole.object (jobIn (a .text .now) (a .object)))
-long c = ap (λ (m : Measured). m .len) (c .measure .ensures .0)
+-- the measured numbers are those of the definitions
+is : (c : tie.After-measure) → let a = c .before .before .before .before .before .before .args in c .measure .result ≡ measuredOf (jobIn (a .text .now) (a .object))
+is c = c .measure .ensures .1 .0
+
+long : (c : tie.After-measure) → let a = c .before .before .before .before .before .before .args in c .measure .result .len ≡ length (whole.object (jobIn (a .text .now) (a .object)))
+long c = ap (λ (m : Measured). m .len) (is c)
+
+few : (c : tie.After-measure) → c .measure .result .count ≤ 71
+few c =
+    let p = c .before .before .before .before .before .before in
+    let a = p .args in
+    omega (arith, count-is (a .text .now) (a .object) (p .pre) (c .measure .result) (is c), few-sections (a .text .now) (a .object) (p .pre))
 
 returns : tie.Need-returns
 returns c =
-    let m = c .before in
-    let a = m .before .before .before .before .before .args in
+    let m = c .before .before in
+    let a = m .before .before .before .before .before .before .args in
     too-short (a .out .now) (whole.object (jobIn (a .text .now) (a .object))) (m .measure .result .len) (long m) (omega arith)
+
+mul-headers : tie.Need-mul-headers
+mul-headers c = omega (arith, few (c .before .before .before))
+
+part-write-end-2 : tie.Need-part-write-end-2
+part-write-end-2 c = omega (arith, few (c .before .before .before .before .before))
 
 write-requires : tie.Need-write-requires
 write-requires c κs =
-    let m = c .before .before in
-    let w = m .before .before in
+    let m = c .before .before .before .before .before .before in
+    let w = m .before .before .before in
     let p = w .before .before .before in
     let a = p .args in
     let n = m .measure .result .len in
     let k : n - 0 ≡ n = omega arith in
-    (p .pre, ((sym (w .weigh .ensures .0 .license), w .weigh .ensures .1 .0 .license), (w .weigh .ensures .1 .1, (m .measure .ensures .0, mid-len 0 n (a .out .now) (omega arith) ∙ k ∙ long m))))
+    let size = headers-long (a .text .now) (a .object) (p .pre) (m .measure .result) (is m) in
+    let part = mid-len 0 n (a .out .now) (omega arith) ∙ k in
+    (p .pre, (w .weigh .ensures .0, (w .weigh .ensures .1 .0, (w .weigh .ensures .1 .1, (is m, (table-front _ _ (headersBytes (rowsOf (jobIn (a .text .now) (a .object)))) (64 * m .measure .result .count) (m .measure .ensures .0) (sym size), (part ∙ long m, omega (arith, part, m .measure .ensures .1 .1))))))))
 
 returns-2 : tie.Need-returns-2
 returns-2 c =
     let u = c .before .before in
-    let m = u .before .before .before in
-    let a = m .before .before .before .before .before .args in
+    let m = u .before .before .before .before .before .before .before in
+    let a = m .before .before .before .before .before .before .args in
     fits (a .out .now) (whole.object (jobIn (a .text .now) (a .object))) _ (m .measure .result .len) (long m) (omega arith) (u .write .ensures)
 
 pub build-spec : {M : Type 1} → statement M
@@ -53,9 +73,13 @@ build-spec =
     tie.close
     (tie.spec
     weigh-requires
+    (search needs)
     measure-requires
     returns
+    mul-headers
     (search needs) (search needs) (search needs)
+    (search needs) (search needs)
+    part-write-end-2
     write-requires
     (search needs)
     returns-2)

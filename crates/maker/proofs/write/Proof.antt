@@ -8,23 +8,30 @@ use borrow.Author.Needs.{needs}
 use borrow.Rule.Slice.PartMut.{mid-len}
 use Rattle.octets.specs.Octets.{zeros}
 use Rattle.octets.proofs.Filling.{fill-left, fill-room}
-use Rattle.elf.specs.Elf.{laid}
 use Rattle.object.specs.Read.{jobIn}
+use Rattle.object.specs.Object.{object}
 use Rattle.measure.specs.declared.Measured.{Measured}
-use Rattle.sections.specs.Pieces.{allPieces, Placed}
-use Rattle.maker.proofs.Sizes.{few-sections, pieces-placed, pieces-counted, table-at, count-is, ends-before, room-for, file-filled, sections-filled, padding-filled, headers-filled}
+use Rattle.measure.specs.Measured.{measuredOf}
+use Rattle.maker.proofs.Sizes.{few-sections, count-is, ends-before, room-for, file-filled, sections-filled, padding-filled, headers-long, headers-filled}
 use Rattle.maker.proofs.write.Statement.{statement}
 use Rattle.maker.proofs.write.Tie as tie
+
+-- the measured numbers are those of the definitions, and the output is as long as the object
+is : (p : tie.Start) → p .args .measured ≡ measuredOf (jobIn (p .args .text .now) (p .args .object))
+is p = p .pre .1 .1 .1 .1 .0
+
+long : (p : tie.Start) → length (p .args .out .now) ≡ length (object (jobIn (p .args .text .now) (p .args .object)))
+long p = p .pre .1 .1 .1 .1 .1 .1 .0
 
 -- how many headers there are, and that their table lies in the object
 few : (p : tie.Start) → (1 ≤ p .args .measured .count) × (p .args .measured .count ≤ 71)
 few p =
     let a = p .args in
-    let c = count-is (a .text .now) (a .object) (p .pre .0) (a .measured) (p .pre .1 .1 .1 .0) in
+    let c = count-is (a .text .now) (a .object) (p .pre .0) (a .measured) (is p) in
     (omega (arith, c), omega (arith, c, few-sections (a .text .now) (a .object) (p .pre .0)))
 
 room : (p : tie.Start) → p .args .measured .at + 64 * p .args .measured .count ≡ length (p .args .out .now)
-room p = let a = p .args in room-for (a .text .now) (a .object) (p .pre .0) (a .measured) (p .pre .1 .1 .1 .0) ∙ sym (p .pre .1 .1 .1 .1)
+room p = let a = p .args in room-for (a .text .now) (a .object) (p .pre .0) (a .measured) (is p) ∙ sym (long p)
 
 cast-put-file-header : tie.Need-cast-put-file-header
 cast-put-file-header c = let p = c .before .before .before .before in omega (arith, few p)
@@ -46,31 +53,16 @@ write-sections-requires c κs =
     let u = c .before .before .before in
     let p = u .before .before .before .before .before in
     let a = p .args in
-    let e = p .pre .1 .1 .1 .0 in
-    let f = file-filled (a .text .now) (a .object) (p .pre .0) (a .measured) e (a .out .now) _ (p .pre .1 .1 .1 .1) (u .put-file-header .ensures) in (
-      p .pre .0,
-      (
-        p .pre .1 .0,
-        (
-          p .pre .1 .1 .0,
-          (
-            subst (λ (m : Measured). Placed (m .table) 1 64 (allPieces (a .text .now) (a .object))) (sym e) (pieces-placed (a .text .now) (a .object) (p .pre .0)),
-            (
-              ap (λ (m : Measured). m .count) e ∙ pieces-counted (a .text .now) (a .object) (p .pre .0),
-              few p .1,
-              omega (arith, fill-left f, ends-before (a .text .now) (a .object) (p .pre .0) (a .measured) e, room p, few p, sym (p .pre .1 .1 .1 .1), f .same),
-            ),
-          ),
-        ),
-      ),
-    )
+    let e = is p in
+    let f = file-filled (a .text .now) (a .object) (p .pre .0) (a .measured) e (a .out .now) _ (long p) (u .put-file-header .ensures) in
+    (p .pre .0, (p .pre .1 .0, (p .pre .1 .1 .0, (ap (λ (m : Measured). m .names) e, (p .pre .1 .1 .1 .0, (omega (arith, fill-left f, ends-before (a .text .now) (a .object) (p .pre .0) (a .measured) e, room p, few p, sym (long p), f .same), omega (arith, f .same, long p, p .pre .1 .1 .1 .1 .1 .1 .1)))))))
 
 -- the sections end before the header table
 before-table : (v : tie.After-write-sections) → v .write-sections .result ≤ v .before .before .before .before .before .before .before .before .before .args .measured .at
 before-table v =
     let p = v .before .before .before .before .before .before .before .before .before in
     let a = p .args in
-    omega (arith, v .write-sections .ensures .1, ends-before (a .text .now) (a .object) (p .pre .0) (a .measured) (p .pre .1 .1 .1 .0))
+    omega (arith, v .write-sections .ensures .1, ends-before (a .text .now) (a .object) (p .pre .0) (a .measured) (is p))
 
 sub-clear : tie.Need-sub-clear
 sub-clear c = omega (arith, before-table (c .before .before))
@@ -84,10 +76,10 @@ part-clear-end c =
     let u = v .before .before .before .before in
     let p = u .before .before .before .before .before in
     let a = p .args in
-    let e = p .pre .1 .1 .1 .0 in
-    let f = file-filled (a .text .now) (a .object) (p .pre .0) (a .measured) e (a .out .now) _ (p .pre .1 .1 .1 .1) (u .put-file-header .ensures) in
+    let e = is p in
+    let f = file-filled (a .text .now) (a .object) (p .pre .0) (a .measured) e (a .out .now) _ (long p) (u .put-file-header .ensures) in
     let g = sections-filled (a .text .now) (a .object) (p .pre .0) (a .measured) e _ _ (v .write-sections .result) f (v .write-sections .ensures .0) (v .write-sections .ensures .1) in
-    omega (arith, g .same, room p, p .pre .1 .1 .1 .1)
+    omega (arith, g .same, room p, long p)
 
 mul-behind : tie.Need-mul-behind
 mul-behind c =
@@ -99,34 +91,34 @@ add-behind c =
     let p = c .before .before .before .before .before .before .before .before .before .before .before .before .before .before .before in
     omega (arith, room p)
 
-part-put-headers-end : tie.Need-part-put-headers-end
-part-put-headers-end c =
+part-copy-end : tie.Need-part-copy-end
+part-copy-end c =
     let z = c .before .before in
     let v = z .before .before .before .before in
     let u = v .before .before .before .before in
     let p = u .before .before .before .before .before in
     let a = p .args in
-    let e = p .pre .1 .1 .1 .0 in
-    let f = file-filled (a .text .now) (a .object) (p .pre .0) (a .measured) e (a .out .now) _ (p .pre .1 .1 .1 .1) (u .put-file-header .ensures) in
+    let e = is p in
+    let f = file-filled (a .text .now) (a .object) (p .pre .0) (a .measured) e (a .out .now) _ (long p) (u .put-file-header .ensures) in
     let g = sections-filled (a .text .now) (a .object) (p .pre .0) (a .measured) e _ _ (v .write-sections .result) f (v .write-sections .ensures .0) (v .write-sections .ensures .1) in
-    let zero = z .clear .ensures ∙ ap zeros (mid-len (v .write-sections .result) (a .measured .at) _ (omega (arith, g .same, room p, p .pre .1 .1 .1 .1))) in
+    let zero = z .clear .ensures ∙ ap zeros (mid-len (v .write-sections .result) (a .measured .at) _ (omega (arith, g .same, room p, long p))) in
     let h = padding-filled (a .text .now) (a .object) (p .pre .0) (a .measured) e _ _ (v .write-sections .result) g (v .write-sections .ensures .1) zero in
-    omega (arith, h .same, room p, p .pre .1 .1 .1 .1)
+    omega (arith, h .same, room p, long p)
 
-put-headers-requires : tie.Need-put-headers-requires
-put-headers-requires c κs =
+copy-requires : tie.Need-copy-requires
+copy-requires c κs =
     let z = c .before .before .before in
     let v = z .before .before .before .before in
     let u = v .before .before .before .before in
     let p = u .before .before .before .before .before in
     let a = p .args in
-    let e = p .pre .1 .1 .1 .0 in
-    let f = file-filled (a .text .now) (a .object) (p .pre .0) (a .measured) e (a .out .now) _ (p .pre .1 .1 .1 .1) (u .put-file-header .ensures) in
+    let e = is p in
+    let f = file-filled (a .text .now) (a .object) (p .pre .0) (a .measured) e (a .out .now) _ (long p) (u .put-file-header .ensures) in
     let g = sections-filled (a .text .now) (a .object) (p .pre .0) (a .measured) e _ _ (v .write-sections .result) f (v .write-sections .ensures .0) (v .write-sections .ensures .1) in
-    let zero = z .clear .ensures ∙ ap zeros (mid-len (v .write-sections .result) (a .measured .at) _ (omega (arith, g .same, room p, p .pre .1 .1 .1 .1))) in
+    let zero = z .clear .ensures ∙ ap zeros (mid-len (v .write-sections .result) (a .measured .at) _ (omega (arith, g .same, room p, long p))) in
     let h = padding-filled (a .text .now) (a .object) (p .pre .0) (a .measured) e _ _ (v .write-sections .result) g (v .write-sections .ensures .1) zero in
     let k : a .measured .at + 64 * a .measured .count - a .measured .at ≡ 64 * a .measured .count = omega arith in
-    (few p .1, mid-len (a .measured .at) (a .measured .at + 64 * a .measured .count) _ (omega (arith, h .same, room p, p .pre .1 .1 .1 .1)) ∙ k)
+    mid-len (a .measured .at) (a .measured .at + 64 * a .measured .count) _ (omega (arith, h .same, room p, long p)) ∙ k ∙ sym (ap length (p .pre .1 .1 .1 .1 .1 .0) ∙ headers-long (a .text .now) (a .object) (p .pre .0) (a .measured) e)
 
 returns : tie.Need-returns
 returns c =
@@ -136,12 +128,12 @@ returns c =
     let u = v .before .before .before .before in
     let p = u .before .before .before .before .before in
     let a = p .args in
-    let e = p .pre .1 .1 .1 .0 in
-    let f = file-filled (a .text .now) (a .object) (p .pre .0) (a .measured) e (a .out .now) _ (p .pre .1 .1 .1 .1) (u .put-file-header .ensures) in
+    let e = is p in
+    let f = file-filled (a .text .now) (a .object) (p .pre .0) (a .measured) e (a .out .now) _ (long p) (u .put-file-header .ensures) in
     let g = sections-filled (a .text .now) (a .object) (p .pre .0) (a .measured) e _ _ (v .write-sections .result) f (v .write-sections .ensures .0) (v .write-sections .ensures .1) in
-    let zero = z .clear .ensures ∙ ap zeros (mid-len (v .write-sections .result) (a .measured .at) _ (omega (arith, g .same, room p, p .pre .1 .1 .1 .1))) in
+    let zero = z .clear .ensures ∙ ap zeros (mid-len (v .write-sections .result) (a .measured .at) _ (omega (arith, g .same, room p, long p))) in
     let h = padding-filled (a .text .now) (a .object) (p .pre .0) (a .measured) e _ _ (v .write-sections .result) g (v .write-sections .ensures .1) zero in
-    headers-filled (a .text .now) (a .object) (p .pre .0) (a .measured) e _ _ h (x .put-headers .ensures)
+    headers-filled (a .text .now) (a .object) (p .pre .0) (a .measured) e _ _ h (x .copy .ensures ∙ p .pre .1 .1 .1 .1 .1 .0)
 
 pub write-spec : {M : Type 1} → statement M
 write-spec =
@@ -161,7 +153,7 @@ write-spec =
     mul-behind
     add-behind
     (search needs) (search needs)
-    part-put-headers-end
-    put-headers-requires
+    part-copy-end
+    copy-requires
     (search needs)
     returns)

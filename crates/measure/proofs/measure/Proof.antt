@@ -1,82 +1,119 @@
 -- `measure::measure` meets its contract. Assumes nothing.
 use mathlib.Core.Path.{_≡_, refl, sym, _∙_, ap}
+use mathlib.Core.List.{List, [], _++_}
 use Prim.Native.Nat.{ℕ, _+_, _*_, _≤_}
 use native.Mathlib.Omega.{arith}
-use mathlib.Core.List.{[]}
-use lib.ListN.{length}
+use lib.ListN.{length, take, length-append}
+use lib.Seq.{length-take-le}
 use borrow.Author.Needs.{needs}
+use Rattle.octets.specs.Over.{over}
 use Rattle.elf.specs.Elf.{alignTo}
 use Rattle.elf.specs.Added.{eight}
+use Rattle.elf.specs.declared.Section as code
 use Rattle.elf.proofs.Places.{align-near}
-use Rattle.object.specs.Read.{jobIn, declaredMaps}
-use Rattle.measure.specs.Measured.{sectionsOf, tableSections, Rows, Low}
-use Rattle.measure.proofs.Table.{low-front, low-tabled, low-more}
-use Rattle.measure.proofs.Whole.{same, rows-before, rows-whole, measured-is}
+use Rattle.object.specs.declared.Program.{Program}
+use Rattle.object.specs.Read.{jobIn}
+use Rattle.headers.specs.Headers.{headersBytes}
+use Rattle.measure.specs.declared.Measuring.{Measuring}
+use Rattle.measure.specs.Measured.{front, frontRows, afterPrograms, programRows, tabled, tableRows, Low}
+use Rattle.measure.proofs.Table.{Has, has-long, has-on, from-zero, front-count, low-front, low-tabled, low-more}
+use Rattle.measure.proofs.Programs.{rows-few, rows-count}
+use Rattle.measure.proofs.Whole.{rows-whole, measured-is}
 use Rattle.measure.proofs.measure.Statement.{statement}
 use Rattle.measure.proofs.measure.Tie as tie
 
+abbrev programs : tie.Start → List Program
+programs p = take (p .args .object .«program_count») (p .args .object .programs)
+
+-- the headers before the programs
+before : (c : tie.After-measure-front) → let p = c .before .before .before .before .before .before .before in
+    let z = p .args .sizes in let n = p .args .object .«map_count» in
+    Has (p .args .table .now) 0 (c .measure-front .last .0) (frontRows z n) × (c .measure-front .result ≡ front z n)
+before c =
+    let p = c .before .before .before .before .before .before .before in
+    let z = p .args .sizes in
+    let n = p .args .object .«map_count» in
+    (record { is = c .measure-front .ensures .0; room = omega (arith, front-count z n, low-front z n (p .pre .1 .1 .0), p .pre .1 .1 .1) }, c .measure-front .ensures .1)
+
 measure-programs-requires : tie.Need-measure-programs-requires
 measure-programs-requires c κs =
-    let p = c .before .before .before .before .before in
+    let f = c .before .before .before in
+    let b = f .before .before in
+    let p = b .before .before .before .before .before in
     let a = p .args in (
-      rw (c .measure-front .ensures) (low-front (a .sizes) (a .object .«map_count») (p .pre .1 .1)),
-      ((p .pre .0 .sound .few-programs, p .pre .0 .sound .programs), c .before .number-behind .ensures .1),
+      rw (before f .1) (low-front (a .sizes) (a .object .«map_count») (p .pre .1 .1 .0)),
+      ((p .pre .0 .sound .few-programs, p .pre .0 .sound .programs), (has-long (before f .0) ∙ p .pre .1 .1 .1, b .number-behind .ensures .1)),
     )
 
--- how low the table is, and its rows, where the code has measured the programs and then all
-low₁ : (c : tie.After-measure-programs) → Low 68 (c .measure-programs .result)
-low₁ c =
-    let p = c .before .before .before .before .before .before in
-    low-more (c .measure-programs .ensures .0) (omega (arith, p .pre .0 .sound .few-programs))
-
-low₂ : (c : tie.After-measure-tables) → Low 71 (c .measure-tables .result)
-low₂ c =
-    let p = c .before .before .before .before .before .before .before in
-    let a = p .args in
-    rw (c .measure-tables .ensures)
-    (low-tabled (2 + a .object .«map_count» + a .object .«program_count») (a .sizes .strtab) (low₁ (c .before)) (omega (arith, p .pre .0 .sound)) (p .pre .1 .1 .strtab))
-
-rows : (c : tie.After-measure-tables) →
-    let a = c .before .before .before .before .before .before .before .args in
-    Rows (sectionsOf (jobIn (a .text .now) (a .object))) (c .measure-tables .result) []
-rows c =
-    let d = c .before in
-    let f = d .before in
-    let n = f .before in
-    let p = n .before .before .before .before in
-    let a = p .args in
-    let j = jobIn (a .text .now) (a .object) in
-    let before =
-    rows-before (a .text .now) (a .object) (p .pre .0) (a .sizes) (p .pre .1 .0) (p .pre .1 .1) (f .measure-front .result) (n .before .first-program .result) (n .number-behind .result)
-    (f .measure-front .ensures) (n .before .first-program .ensures .0) (n .number-behind .ensures .0) in
-    let declared =
-    d .measure-programs .ensures .1 (sectionsOf j) (declaredMaps (a .text .now) (a .object)) (j .programs) (tableSections j)
-    (same (a .text .now) (a .object) (p .pre .0) (a .sizes) (p .pre .1 .0) (p .pre .1 .1)) before in
-    rows-whole (a .text .now) (a .object) (p .pre .0) (a .sizes) (p .pre .1 .0) (p .pre .1 .1) (d .measure-programs .result) (c .measure-tables .result) declared (low₁ d) (c .measure-tables .ensures)
+-- with the programs'
+declared : (c : tie.After-measure-programs) → let b = c .before .before .before .before .before .before in let p = b .before .before .before .before .before in
+    let z = p .args .sizes in let n = p .args .object .«map_count» in let symtab = b .number-behind .result in
+    Has (p .args .table .now) 0 (c .measure-programs .last .0) (frontRows z n ++ programRows (front z n) symtab (programs p))
+    × (c .measure-programs .result ≡ afterPrograms (front z n) symtab (programs p)) × Low 68 (c .measure-programs .result)
+declared c =
+    let f = c .before .before .before .before in
+    let b = f .before .before in
+    let p = b .before .before .before .before .before in
+    let z = p .args .sizes in
+    let n = p .args .object .«map_count» in
+    let symtab = b .number-behind .result in
+    let few = rows-few (front z n) symtab (programs p) in
+    let count = length-take-le (p .args .object .«program_count») (p .args .object .programs) (omega (arith, p .pre .0 .sound)) in
+    let bytes = c .measure-programs .ensures .0 ∙ ap (λ (m : Measuring). over (f .measure-front .last .0) (64 * m .count) (headersBytes (programRows m symtab (programs p)))) (before f .1) in (
+      has-on _ (front z n .count) (programRows (front z n) symtab (programs p)) (before f .0) bytes (from-zero (front-count z n))
+          (omega (arith, front-count z n, low-front z n (p .pre .1 .1 .0), few, count, p .pre .0 .sound, p .pre .1 .1 .1)),
+      c .measure-programs .ensures .1 .0 ∙ ap (λ (m : Measuring). afterPrograms m symtab (programs p)) (before f .1),
+      low-more (c .measure-programs .ensures .1 .1) (omega (arith, p .pre .0 .sound .few-programs)),
+    )
 
 measure-tables-requires : tie.Need-measure-tables-requires
 measure-tables-requires c κs =
-    let p = c .before .before .before .before .before .before in
-    (low₁ c, (omega (arith, p .pre .0 .sound), p .pre .1 .1 .strtab))
+    let d = c .before .before .before in
+    let p = d .before .before .before .before .before .before .before .before .before .before .before in
+    (declared d .2, (has-long (declared d .0) ∙ p .pre .1 .1 .1, (omega (arith, p .pre .0 .sound), p .pre .1 .1 .0 .strtab)))
+
+low : (c : tie.After-measure-tables) → Low 71 (c .measure-tables .result)
+low c =
+    let d = c .before .before .before .before in
+    let p = d .before .before .before .before .before .before .before .before .before .before .before in
+    let a = p .args in
+    rw (c .measure-tables .ensures .1)
+    (low-tabled (2 + a .object .«map_count» + a .object .«program_count») (a .sizes .strtab) (declared d .2) (omega (arith, p .pre .0 .sound)) (p .pre .1 .1 .0 .strtab))
 
 align-to-requires : tie.Need-align-to-requires
-align-to-requires c κs = (eight, omega (arith, low₂ c))
+align-to-requires c κs = (eight, omega (arith, low (c .before .before)))
 
-mul-t15 : tie.Need-mul-t15
-mul-t15 c = omega (arith, low₂ (c .before .before .before))
+mul-t21 : tie.Need-mul-t21
+mul-t21 c = omega (arith, low (c .before .before .before .before))
 
-near : (c : tie.After-align-to) → c .align-to .result ≤ c .before .measure-tables .result .end + 8
-near c = omega (arith, c .align-to .ensures, align-near 8 (c .before .measure-tables .result .end) (omega arith))
+near : (c : tie.After-align-to) → c .align-to .result ≤ c .before .before .before .measure-tables .result .end + 8
+near c = omega (arith, c .align-to .ensures, align-near 8 (c .before .before .before .measure-tables .result .end) (omega arith))
 
-add-t16 : tie.Need-add-t16
-add-t16 c = omega (arith, low₂ (c .before .before .before), near (c .before .before))
+add-t22 : tie.Need-add-t22
+add-t22 c = omega (arith, low (c .before .before .before .before), near (c .before))
 
 returns : tie.Need-returns
 returns c =
-    let g = c .before .before in
-    let d = g .before in
-    let a = d .before .before .before .before .before .before .before .args in
-    (measured-is (jobIn (a .text .now) (a .object)) (d .measure-tables .result) (g .align-to .result) (rows d) (g .align-to .ensures), omega (arith, low₂ d, near g))
+    let g = c .before in
+    let t = g .before .before .before in
+    let d = t .before .before .before .before in
+    let b = d .before .before .before .before .before .before in
+    let p = b .before .before .before .before .before in
+    let a = p .args in
+    let z = a .sizes in
+    let n = a .object .«map_count» in
+    let symtab = b .number-behind .result in
+    let m = afterPrograms (front z n) symtab (programs p) in
+    let symbols = 2 + n + a .object .«program_count» in
+    let r = rows-whole (a .text .now) (a .object) (p .pre .0) z (p .pre .1 .0) (b .before .first-program .result) symtab (b .before .first-program .ensures .0) (b .number-behind .ensures .0) in
+    let state : t .measure-tables .result ≡ tabled m symbols (z .strtab) = t .measure-tables .ensures .1 ∙ ap (λ (x : Measuring). tabled x symbols (z .strtab)) (declared d .1) in
+    let bytes = t .measure-tables .ensures .0 ∙ ap (λ (x : Measuring). over (d .measure-programs .last .0) (64 * x .count) (headersBytes (tableRows x symbols (z .strtab)))) (declared d .1) in
+    let at : m .count ≡ length (frontRows z n ++ programRows (front z n) symtab (programs p)) = omega (arith, length-append (frontRows z n) (programRows (front z n) symtab (programs p)), rows-count (front z n) symtab (programs p), front-count z n) in
+    let few : m .count ≤ 68 = omega (arith, ap (λ (x : Measuring). x .count) (declared d .1), declared d .2 .few) in
+    let room : 64 * (m .count + 3) ≤ length (a .table .now) = omega (arith, few, p .pre .1 .1 .1) in
+    let all = has-on _ (m .count) (tableRows m symbols (z .strtab)) (declared d .0) bytes (from-zero at) room in
+    let whole = measured-is (jobIn (a .text .now) (a .object)) _ (tabled m symbols (z .strtab)) (g .align-to .result) (r .0) (r .1) (g .align-to .ensures ∙ ap (λ (x : Measuring). alignTo 8 (x .end)) state) in
+    (all .is ∙ ap (λ (rows : List code.Section). over (a .table .now) 0 (headersBytes rows)) (whole .0), (rw state (whole .1), omega (arith, low t, near g)))
 
 pub measure-spec : {M : Type 1} → statement M
 measure-spec =
@@ -87,6 +124,7 @@ measure-spec =
     (search needs) (search needs)
     measure-tables-requires
     align-to-requires
-    mul-t15
-    add-t16
+    mul-t21
+    add-t22
+    (search needs)
     returns)

@@ -3,18 +3,19 @@ use mathlib.Core.Path.{_≡_, refl, sym, _∙_, ap, subst}
 use mathlib.Core.List.{List, [], _∷_, _++_}
 use Prim.Native.Nat.{ℕ, suc, _+_, _-_, _*_, _≤_, _<_}
 use native.Mathlib.Omega.{arith}
-use lib.ListN.{length, take, drop, getD}
+use lib.ListN.{length, length-replicate}
 use borrow.Author.Needs.{needs}
 use Rattle.octets.specs.Octets.{zeros}
 use Rattle.octets.specs.Over.{over}
 use Rattle.elf.specs.Elf.{Section, laid, endOf}
+use Rattle.elf.specs.Added.{four, eight}
 use Rattle.btf.specs.Btf.{btfBytes}
 use Rattle.btf.specs.Maps.{mapTypes, btfTypes}
 use Rattle.object.specs.Read.{declaredMaps}
 use Rattle.named.proofs.There.{kept-maps}
 use Rattle.named.proofs.Going.{over-nothing}
-use Rattle.sections.specs.Pieces.{bare, mapPieces, noSection, Placed}
-use Rattle.sections.proofs.Turns.{Turn, turn-start, turn-room, turn-on, turn-done, no-maps, some-maps, zeros-piece}
+use Rattle.sections.specs.Pieces.{bare, mapPieces, Fits}
+use Rattle.sections.proofs.Turns.{Turn, turn-start, turn-fits, turn-on, turn-done, no-maps, some-maps, zeros-piece}
 use Rattle.sections.proofs.write_maps.Statement.{statement}
 use Rattle.sections.proofs.write_maps.Tie as tie
 
@@ -29,45 +30,52 @@ begun : (c : tie.Else1) →
     let a = c .before .before .before .before .args in
     let ms = declaredMaps (a .text .now) (a .t4) in
     let all = bare 8 (zeros (mapTypes 6 0 ms .size)) ∷ bare 4 (btfBytes (btfTypes ms)) ∷ [] in
-    (mapPieces (a .t4 .«map_count») ms ≡ all) × Turn (a .t6) (a .out .now) (a .end) all (a .out .now) (a .end) 2 all
+    (mapPieces (a .t4 .«map_count») ms ≡ all) × Turn (a .out .now) (a .end) all (a .out .now) (a .end) all
 begun c =
     let p = c .before .before .before .before in
     let a = p .args in
     let ms = declaredMaps (a .text .now) (a .t4) in
     let all = bare 8 (zeros (mapTypes 6 0 ms .size)) ∷ bare 4 (btfBytes (btfTypes ms)) ∷ [] in
     let e = some-maps (a .t4 .«map_count») ms (omega arith) in
-    let room : endOf (a .end) all ≤ length (a .out .now) = subst (λ (ss : List Section). endOf (a .end) ss ≤ length (a .out .now)) e (p .pre .1 .1 .1) in
-    (e, turn-start (a .t6) (a .out .now) (a .end) 2 all (subst (Placed (a .t6) 2 (a .end)) e (p .pre .1 .1 .0)) (omega arith, (omega arith, tt)) room)
+    let room : endOf (a .end) all ≤ length (a .out .now) = subst (λ (ss : List Section). endOf (a .end) ss ≤ length (a .out .now)) e (p .pre .1 .1 .1 .0) in
+    (e, turn-start (a .out .now) (a .end) all (omega arith, (omega arith, tt)) room)
 
 lay-zeros-requires : tie.Need-lay-zeros-requires
 lay-zeros-requires c κs =
-    let t = begun (c .before .before) .1 in
-    (t .placed .0, omega (arith, turn-room _ _ t, t .placed .0, t .placed .1))
+    let q = c .before in
+    let p = q .before .before .before .before in
+    let a = p .args in
+    let n = mapTypes 6 0 (declaredMaps (a .text .now) (a .t4)) .size in
+    let f = turn-fits n _ _ (begun q .1) eight (sym (length-replicate {A = ℕ} n 0)) (p .pre .1 .1 .1 .1) in
+    subst (λ (k : ℕ). Fits (a .out .now) (a .end) k (bare 8 (zeros k))) (p .pre .1 .1 .0 .maps) f
 
-lay-btf-requires : tie.Need-lay-btf-requires
-lay-btf-requires c κs =
-    let u = c .before .before .before .before .before .before .before .before .before in
-    let q = u .before .before .before in
+-- behind `.maps`
+middle : (c : tie.After-lay-zeros) →
+    let a = c .before .before .before .before .before .before .args in
+    let ms = declaredMaps (a .text .now) (a .t4) in
+    Turn (a .out .now) (a .end) (bare 8 (zeros (mapTypes 6 0 ms .size)) ∷ bare 4 (btfBytes (btfTypes ms)) ∷ []) (c .lay-zeros .last .0) (c .lay-zeros .result) (bare 4 (btfBytes (btfTypes ms)) ∷ [])
+middle c =
+    let q = c .before .before in
     let p = q .before .before .before .before in
     let a = p .args in
     let ms = declaredMaps (a .text .now) (a .t4) in
-    let t = begun q .1 in
-    let z = zeros-piece (a .out .now) _ (a .end) (u .lay-zeros .result) (getD (a .t6) 2 noSection .size) (mapTypes 6 0 ms .size) (t .placed .1) (u .lay-zeros .ensures .0) (u .lay-zeros .ensures .1) in
-    let t₁ = turn-on _ _ _ _ 3 t (z .0) (z .1) refl in
-    (kept-maps (a .text .now) (a .t4) (p .pre .0), (p .pre .1 .0, ((t₁ .placed .0, t₁ .placed .1), omega (arith, turn-room _ _ t₁, t₁ .placed .0, t₁ .placed .1))))
+    let z = zeros-piece (a .out .now) _ (a .end) (c .lay-zeros .result) (a .sizes .maps) (mapTypes 6 0 ms .size) (p .pre .1 .1 .0 .maps) (c .lay-zeros .ensures .0) (c .lay-zeros .ensures .1) in
+    turn-on _ _ _ _ (begun q .1) (z .0) (z .1)
+
+lay-btf-requires : tie.Need-lay-btf-requires
+lay-btf-requires c κs =
+    let u = c .before .before .before .before .before .before .before .before in
+    let p = u .before .before .before .before .before .before in
+    let a = p .args in
+    (kept-maps (a .text .now) (a .t4) (p .pre .0), (p .pre .1 .0, turn-fits (a .sizes .btf) _ _ (middle u) four (sym (p .pre .1 .1 .0 .btf)) (p .pre .1 .1 .1 .1)))
 
 returns-2 : tie.Need-returns-2
 returns-2 c =
     let v = c .before .before in
-    let u = v .before .before .before .before .before .before .before .before .before .before in
-    let q = u .before .before .before in
-    let p = q .before .before .before .before in
-    let a = p .args in
-    let ms = declaredMaps (a .text .now) (a .t4) in
-    let t = begun q .1 in
-    let z = zeros-piece (a .out .now) _ (a .end) (u .lay-zeros .result) (getD (a .t6) 2 noSection .size) (mapTypes 6 0 ms .size) (t .placed .1) (u .lay-zeros .ensures .0) (u .lay-zeros .ensures .1) in
-    let t₁ = turn-on _ _ _ _ 3 t (z .0) (z .1) refl in
-    let d = turn-done (turn-on _ _ _ _ 4 t₁ (v .lay-btf .ensures .0) (v .lay-btf .ensures .1) refl) in
+    let u = v .before .before .before .before .before .before .before .before .before in
+    let q = u .before .before in
+    let a = q .before .before .before .before .args in
+    let d = turn-done (turn-on _ _ _ _ (middle u) (v .lay-btf .ensures .0) (v .lay-btf .ensures .1)) in
     (d .0 ∙ ap (λ (ss : List Section). over (a .out .now) (a .end) (laid (a .end) ss)) (sym (begun q .0)), d .1 ∙ ap (endOf (a .end)) (sym (begun q .0)))
 
 pub write-maps-spec : {M : Type 1} → statement M
@@ -75,9 +83,7 @@ write-maps-spec =
     tie.close
     (tie.spec
     returns
-    (search needs)
     lay-zeros-requires
-    (search needs)
     lay-btf-requires
     (search needs)
     returns-2)

@@ -6,12 +6,13 @@ use native.Mathlib.Omega.{arith}
 use lib.ListN.{length, take, drop, getD, length-append}
 use borrow.Author.Needs.{needs}
 use Rattle.elf.specs.Elf.{Section}
-use Rattle.object.specs.Read.{declaredMaps, jobIn}
+use Rattle.elf.specs.Added.{one}
+use Rattle.object.specs.Read.{licenceIn, declaredMaps, jobIn}
 use Rattle.strtab.proofs.Whole.{programs-there}
 use Rattle.measure.specs.Measured.{sectionsOf}
 use Rattle.measure.proofs.Whole.{aligned}
 use Rattle.sections.specs.Pieces.{mapPieces, programPieces, tablePieces, allPieces}
-use Rattle.sections.proofs.Turns.{Turn, turn-start, turn-room, turn-on, turn-done, row-placed, row-room, row-on, first-index}
+use Rattle.sections.proofs.Turns.{Turn, turn-start, turn-fits, turn-on, turn-done, row-room, row-on}
 use Rattle.sections.proofs.Alike.{alike-all, alike-aligned, all-slotted}
 use Rattle.sections.proofs.write_sections.Statement.{statement}
 use Rattle.sections.proofs.write_sections.Tie as tie
@@ -26,91 +27,85 @@ abbrev tables : tie.Start → List Section
 tables p = tablePieces (jobIn (p .args .text .now) (p .args .object))
 
 -- before the licence
-begun : (p : tie.Start) → let a = p .args in let all = allPieces (a .text .now) (a .object) in Turn (a .t4) (a .out .now) 64 all (a .out .now) 64 1 all
+begun : (p : tie.Start) → let a = p .args in let all = allPieces (a .text .now) (a .object) in Turn (a .out .now) 64 all (a .out .now) 64 all
 begun p =
     let a = p .args in
     let all = allPieces (a .text .now) (a .object) in
-    turn-start (a .t4) (a .out .now) 64 1 all (p .pre .1 .1 .1 .0)
-    (alike-aligned (sectionsOf (jobIn (a .text .now) (a .object))) all (alike-all (a .text .now) (a .object) (p .pre .0)) (aligned (jobIn (a .text .now) (a .object)))) (p .pre .1 .1 .1 .1 .2)
+    turn-start (a .out .now) 64 all
+    (alike-aligned (sectionsOf (jobIn (a .text .now) (a .object))) all (alike-all (a .text .now) (a .object) (p .pre .0)) (aligned (jobIn (a .text .now) (a .object)))) (p .pre .1 .1 .1 .1 .1 .0)
+
+-- the output is not longer than any object
+short : (p : tie.Start) → length (p .args .out .now) ≤ 200000000
+short p = p .pre .1 .1 .1 .1 .1 .1
+
+add-lay-license : tie.Need-add-lay-license
+add-lay-license c = let p = c .before .before .before .before .before .before in omega (arith, p .pre .1 .1 .0 .license)
 
 lay-license-requires : tie.Need-lay-license-requires
 lay-license-requires c κs =
     let p = c .before .before .before .before .before .before in
-    let t = begun p in
-    (p .pre .0 .licence, ((t .placed .0, t .placed .1), omega (arith, turn-room _ _ t, t .placed .0, t .placed .1)))
+    let a = p .args in
+    let n : a .sizes .license + 1 ≡ length (licenceIn (a .text .now) (a .object .license) ++ (0 ∷ [])) =
+    omega (arith, p .pre .1 .0 .license, length-append (licenceIn (a .text .now) (a .object .license)) (0 ∷ [])) in
+    (p .pre .0 .licence, turn-fits (a .sizes .license + 1) _ _ (begun p) one n (short p))
+
+-- behind the licence, the maps' sections and the programs'
+licensed : (c : tie.After-lay-license) → let p = c .before .before .before .before .before .before .before in let a = p .args in
+    Turn (a .out .now) 64 (allPieces (a .text .now) (a .object)) (c .lay-license .last .0) (c .lay-license .result) (maps p ++ (programs p ++ tables p))
+licensed c = turn-on _ _ _ _ (begun (c .before .before .before .before .before .before .before)) (c .lay-license .ensures .0) (c .lay-license .ensures .1)
+
+-- the output keeps its length
+same : (p : tie.Start) (out : List ℕ) {end : ℕ} {rest : List Section} → Turn (p .args .out .now) 64 (allPieces (p .args .text .now) (p .args .object)) out end rest → length out ≤ 200000000
+same p out t = omega (arith, t .going .same, short p)
 
 write-maps-requires : tie.Need-write-maps-requires
 write-maps-requires c κs =
     let u = c .before .before .before in
     let p = u .before .before .before .before .before .before .before in
-    let t = turn-on _ _ _ _ 2 (begun p) (u .lay-license .ensures .0) (u .lay-license .ensures .1) refl in
-    (p .pre .0, (p .pre .1 .1 .0, (row-placed (maps p) (programs p ++ tables p) t, row-room (maps p) (programs p ++ tables p) t)))
+    (p .pre .0, (p .pre .1 .1 .1 .1 .0, (p .pre .1 .0, (row-room (maps p) (programs p ++ tables p) (licensed u), same p _ (licensed u)))))
+
+mapped : (c : tie.After-write-maps) → let p = c .before .before .before .before .before .before .before .before .before .before .before in let a = p .args in
+    Turn (a .out .now) 64 (allPieces (a .text .now) (a .object)) (c .write-maps .last .0) (c .write-maps .result) (programs p ++ tables p)
+mapped c =
+    let u = c .before .before .before .before in
+    let p = u .before .before .before .before .before .before .before in
+    row-on (maps p) (programs p ++ tables p) _ _ (licensed u) (c .write-maps .ensures .0) (c .write-maps .ensures .1)
 
 write-programs-requires : tie.Need-write-programs-requires
 write-programs-requires c κs =
-    let f = c .before in
-    let v = f .before .before .before in
-    let u = v .before .before .before .before in
-    let p = u .before .before .before .before .before .before .before in
+    let v = c .before .before .before in
+    let p = v .before .before .before .before .before .before .before .before .before .before .before in
     let a = p .args in
-    let t = turn-on _ _ _ _ 2 (begun p) (u .lay-license .ensures .0) (u .lay-license .ensures .1) refl in
-    let t₂ = row-on (maps p) (programs p ++ tables p) _ _ (f .first-program .result) t (v .write-maps .ensures .0) (v .write-maps .ensures .1)
-    (f .first-program .ensures .0 ∙ first-index (a .object .«map_count») (declaredMaps (a .text .now) (a .object))) in (
-      programs-there (a .text .now) (a .object) (p .pre .0),
-      (
-        all-slotted (a .text .now) (a .object) (p .pre .0),
-        (row-placed (programs p) (tables p) t₂, (f .first-program .ensures .1, p .pre .0 .sound .slots, row-room (programs p) (tables p) t₂)),
-      ),
-    )
+    (programs-there (a .text .now) (a .object) (p .pre .0), (all-slotted (a .text .now) (a .object) (p .pre .0), (p .pre .0 .sound .slots, (row-room (programs p) (tables p) (mapped v), same p _ (mapped v)))))
 
--- how many sections there are
-counted : (p : tie.Start) → p .args .count ≡ 2 + length (maps p) + length (programs p) + 3
-counted p = omega (arith, p .pre .1 .1 .1 .1 .0, length-append (maps p) (programs p ++ tables p), length-append (programs p) (tables p))
-
-sub-write-tables : tie.Need-sub-write-tables
-sub-write-tables c =
-    let p = c .before .before .before .before .before .before .before .before .before .before .before .before .before .before .before .before .before .before .before in
-    omega (arith, counted p)
+programmed : (c : tie.After-write-programs) → let p = c .before .before .before .before .before .before .before .before .before .before .before .before .before .before .before in let a = p .args in
+    Turn (a .out .now) 64 (allPieces (a .text .now) (a .object)) (c .write-programs .last .0) (c .write-programs .result) (tables p)
+programmed c =
+    let v = c .before .before .before .before in
+    let p = v .before .before .before .before .before .before .before .before .before .before .before in
+    row-on (programs p) (tables p) _ _ (mapped v) (c .write-programs .ensures .0) (c .write-programs .ensures .1)
 
 write-tables-requires : tie.Need-write-tables-requires
 write-tables-requires c κs =
     let w = c .before .before .before in
-    let f = w .before .before in
-    let v = f .before .before .before in
-    let u = v .before .before .before .before in
-    let p = u .before .before .before .before .before .before .before in
-    let a = p .args in
-    let first = f .first-program .ensures .0 ∙ first-index (a .object .«map_count») (declaredMaps (a .text .now) (a .object)) in
-    let t = turn-on _ _ _ _ 2 (begun p) (u .lay-license .ensures .0) (u .lay-license .ensures .1) refl in
-    let t₂ = row-on (maps p) (programs p ++ tables p) _ _ (f .first-program .result) t (v .write-maps .ensures .0) (v .write-maps .ensures .1) first in
-    let t₃ = row-on (programs p) (tables p) _ _ (a .count - 3) t₂ (w .write-programs .ensures .0) (w .write-programs .ensures .1) (omega (arith, counted p, first)) in
-    (p .pre .0, (p .pre .1 .0, (row-placed (tables p) [] t₃, (omega (arith, p .pre .1 .1 .1 .1 .1), row-room (tables p) [] t₃))))
+    let p = w .before .before .before .before .before .before .before .before .before .before .before .before .before .before .before in
+    (p .pre .0, (p .pre .1 .0, (p .pre .1 .1 .0, (p .pre .1 .1 .1 .0, (row-room (tables p) [] (programmed w), same p _ (programmed w))))))
 
 returns : tie.Need-returns
 returns c =
     let x = c .before .before in
     let w = x .before .before .before .before in
-    let f = w .before .before in
-    let v = f .before .before .before in
-    let u = v .before .before .before .before in
-    let p = u .before .before .before .before .before .before .before in
-    let a = p .args in
-    let first = f .first-program .ensures .0 ∙ first-index (a .object .«map_count») (declaredMaps (a .text .now) (a .object)) in
-    let t = turn-on _ _ _ _ 2 (begun p) (u .lay-license .ensures .0) (u .lay-license .ensures .1) refl in
-    let t₂ = row-on (maps p) (programs p ++ tables p) _ _ (f .first-program .result) t (v .write-maps .ensures .0) (v .write-maps .ensures .1) first in
-    let t₃ = row-on (programs p) (tables p) _ _ (a .count - 3) t₂ (w .write-programs .ensures .0) (w .write-programs .ensures .1) (omega (arith, counted p, first)) in
-    turn-done (row-on (tables p) [] _ _ (a .count) t₃ (x .write-tables .ensures .0) (x .write-tables .ensures .1) (omega (arith, counted p)))
+    let p = w .before .before .before .before .before .before .before .before .before .before .before .before .before .before .before in
+    turn-done (row-on (tables p) [] _ _ (programmed w) (x .write-tables .ensures .0) (x .write-tables .ensures .1))
 
 pub write-sections-spec : {M : Type 1} → statement M
 write-sections-spec =
     tie.close
     (tie.spec
-    (search needs)
+    add-lay-license
     lay-license-requires
     write-maps-requires
-    (search needs)
     write-programs-requires
-    sub-write-tables
     write-tables-requires
     (search needs)
     returns)

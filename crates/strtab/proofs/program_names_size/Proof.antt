@@ -5,7 +5,7 @@ use Prim.Native.Nat.{ℕ, _+_, _-_, _*_, _≤_, _<_}
 use native.Mathlib.Omega.{arith}
 use lib.ListN.{length, take, drop, getD}
 use borrow.Author.Needs.{needs}
-use Rattle.elf.proofs.Strings.{sizeOf}
+use Rattle.elf.specs.Row.{sizeOf}
 use Rattle.named.proofs.There.{kept-program}
 use Rattle.strtab.specs.Rows.{programNames, ProgramsThere}
 use Rattle.strtab.proofs.Rows.{program-name-from, program-name-end}

@@ -6,7 +6,7 @@ use native.Mathlib.Omega.{arith}
 use lib.ListN.{length, take, drop, getD}
 use borrow.Author.Needs.{needs}
 use Rattle.written.specs.Written.{written}
-use Rattle.elf.proofs.Joined.{joined}
+use Rattle.elf.specs.Row.{joined}
 use Rattle.object.specs.Read.{bytesAt}
 use Rattle.named.proofs.Going.{Going, go-start}
 use Rattle.strtab.specs.Rows.{namesIn, NamesThere}

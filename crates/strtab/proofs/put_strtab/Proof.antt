@@ -8,7 +8,7 @@ use borrow.Author.Needs.{needs}
 use borrow.Rule.Slice.PartMut.{mid-len}
 use Rattle.octets.specs.Octets.{zeros, ascii}
 use Rattle.octets.proofs.Filling.{fill-room}
-use Rattle.elf.proofs.Joined.{joined}
+use Rattle.elf.specs.Row.{joined}
 use Rattle.strtab.proofs.Whole.{strtab-long, names-there, programs-there, strings-zeros, strings-licence, strings-maps, strings-programs, mapNames, programNamed}
 use Rattle.strtab.proofs.put_strtab.Statement.{statement}
 use Rattle.strtab.proofs.put_strtab.Tie as tie
