@@ -1,46 +1,25 @@
--- Walks that look at every character and gather what they find in one number, 0 as long as nothing was found; and walks in blocks.
+-- Walks that look at every character, and walks in blocks.
 use mathlib.Core.Path.{_≡_, refl, sym, _∙_, ap}
-use mathlib.Core.Bool.{Bool, true, false, cond, _&&_, _||_, not}
+use mathlib.Core.Bool.{Bool, true, false, cond, _&&_, _||_, not, and-true, and-false, and-assoc, or-false}
 use mathlib.Core.List.{List, [], _∷_}
 use Prim.Native.Nat.{ℕ, zero, suc, _+_, _%_, _<_, _≤_}
 use native.Mathlib.Omega.{arith}
-use lib.Bits.{bitOr, or-add-and, and-mask, or-zero-r}
+use lib.Bits.{bitOr}
 use lib.Dec.{eqb}
 use lib.ListN.{length, take, drop, getD}
-use borrow.Author.Tests.{ne-eqb, eqb-false}
+use borrow.Author.Tests.{eqb-false}
 use Rattle.octets.proofs.Laws.{read-on, read-done}
+use Rattle.octets.proofs.Gather.{all-on, one-on}
 use Rattle.lines.specs.Lines.{digit, unhex}
 use Rattle.lines.specs.Ends.{holdsEnd, lineEnd}
 use Rattle.lines.specs.Hex.{there}
 use Rattle.lines.proofs.Laws.{there-pair, end-on}
-
--- ---- what was found
-
--- with 1 among what is found, something was
-pub found-one : (a : ℕ) → eqb (bitOr a 1) 0 ≡ false
-found-one a = ne-eqb (bitOr a 1) 0 (λ e. omega (arith, or-add-and a 1, and-mask a 1))
-
--- with 0 nothing more
-pub found-none : (a : ℕ) → eqb (bitOr a 0) 0 ≡ eqb a 0
-found-none a = ap (λ (n : ℕ). eqb n 0) (or-zero-r a)
-
-and-false : (a : Bool) → (a && false) ≡ false
-and-false true = refl
-and-false false = refl
-
-and-true : (a : Bool) → (a && true) ≡ a
-and-true true = refl
-and-true false = refl
 
 -- ---- digits
 
 abbrev pub allDigits : List ℕ → Bool
 allDigits [] = true
 allDigits (c ∷ cs) = there (digit c) && allDigits cs
-
-and-assoc : (a b c : Bool) → ((a && b) && c) ≡ (a && (b && c))
-and-assoc true b c = refl
-and-assoc false b c = refl
 
 -- an even number of digits is hexadecimal
 pub hex-even : (s : List ℕ) → (length s % 2 ≡ 1 → ⊥) → there (unhex s) ≡ allDigits s
@@ -61,34 +40,18 @@ hex-odd (c ∷ d ∷ cs) h =
 -- one character more
 pub digit-on : (s : List ℕ) (i bad n : ℕ) → i < length s → n ≡ cond (there (digit (getD s i 0))) 0 1
     → (eqb bad 0 && allDigits (drop i s)) ≡ (eqb (bitOr bad n) 0 && allDigits (drop (i + 1) s))
-digit-on s i bad n h e = ap (λ (l : List ℕ). eqb bad 0 && allDigits l) (read-on s i h) ∙ go (there (digit (getD s i 0))) refl
-  where
-    go : (b : Bool) → there (digit (getD s i 0)) ≡ b
-        → (eqb bad 0 && (there (digit (getD s i 0)) && allDigits (drop (i + 1) s))) ≡ (eqb (bitOr bad n) 0 && allDigits (drop (i + 1) s))
-    go true t = rw (e, t) (ap (λ (b : Bool). b && allDigits (drop (i + 1) s)) (sym (found-none bad)))
-    go false t = rw (e, t) (and-false (eqb bad 0) ∙ ap (λ (b : Bool). b && allDigits (drop (i + 1) s)) (sym (found-one bad)))
+digit-on s i bad n h e =
+    ap (λ (l : List ℕ). eqb bad 0 && allDigits l) (read-on s i h) ∙ all-on bad n (there (digit (getD s i 0))) (allDigits (drop (i + 1) s)) e
 
 pub digits-done : (s : List ℕ) (i bad : ℕ) → length s ≤ i → (eqb bad 0 && allDigits (drop i s)) ≡ eqb bad 0
 digits-done s i bad h = ap (λ (l : List ℕ). eqb bad 0 && allDigits l) (read-done s i h) ∙ and-true (eqb bad 0)
 
 -- ---- an LF
 
-or-true : (a : Bool) → (a || true) ≡ true
-or-true true = refl
-or-true false = refl
-
-or-false : (a : Bool) → (a || false) ≡ a
-or-false true = refl
-or-false false = refl
-
 pub end-found : (s : List ℕ) (i found n : ℕ) → i < length s → n ≡ cond (eqb (getD s i 0) 10) 1 0
     → (not (eqb found 0) || holdsEnd (drop i s)) ≡ (not (eqb (bitOr found n) 0) || holdsEnd (drop (i + 1) s))
-end-found s i found n h e = ap (λ (l : List ℕ). not (eqb found 0) || holdsEnd l) (read-on s i h) ∙ go (eqb (getD s i 0) 10) refl
-  where
-    go : (b : Bool) → eqb (getD s i 0) 10 ≡ b
-        → (not (eqb found 0) || (eqb (getD s i 0) 10 || holdsEnd (drop (i + 1) s))) ≡ (not (eqb (bitOr found n) 0) || holdsEnd (drop (i + 1) s))
-    go true t = rw (e, t) (or-true (not (eqb found 0)) ∙ ap (λ (b : Bool). not b || holdsEnd (drop (i + 1) s)) (sym (found-one found)))
-    go false t = rw (e, t) (ap (λ (b : Bool). not b || holdsEnd (drop (i + 1) s)) (sym (found-none found)))
+end-found s i found n h e =
+    ap (λ (l : List ℕ). not (eqb found 0) || holdsEnd l) (read-on s i h) ∙ one-on found n (eqb (getD s i 0) 10) (holdsEnd (drop (i + 1) s)) e
 
 pub ends-done : (s : List ℕ) (i found : ℕ) → length s ≤ i → (not (eqb found 0) || holdsEnd (drop i s)) ≡ not (eqb found 0)
 ends-done s i found h = ap (λ (l : List ℕ). not (eqb found 0) || holdsEnd l) (read-done s i h) ∙ or-false (not (eqb found 0))

@@ -157,19 +157,19 @@ fn nibble(c: u8) -> u8
     (c & 15) + 9 * (c >> 6)
 }
 
-// The bytes of the hexadecimal `s`, into a part of exactly their number.
+// The bytes of the hexadecimal `s`, into a part of exactly their number. Each byte's digits are found by its number alone, so that the
+// compiler takes many at a time.
 pub fn put_unhex(out: &mut [u8], s: &[u8])
     requires { ⌜ isHex (now s) ≡ true ⌝ }
     requires { ⌜ length (now s) ≡ 2 * length (now out) ⌝ }
     ensures { λ _. ⌜ now (out .exit) ≡ bytesOf (unhex (now (s .entry))) ⌝ }
 {
+    let n = out.len();
     let mut i = 0;
-    let mut at: usize = 0;
-    while i < out.len() {
-        let h = nibble(s[at]);
-        let l = nibble(s[at + 1]);
+    while i < n {
+        let h = nibble(s[2 * i]);
+        let l = nibble(s[2 * i + 1]);
         out[i] = h * 16 + l;
-        at += 2;
         i += 1;
     }
 }

@@ -5,4 +5,5 @@ pub mod Reading
 pub mod Lists
 pub mod Bytes
 pub mod Tests
+pub mod Gather
 pub mod Single

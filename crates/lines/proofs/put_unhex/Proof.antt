@@ -1,49 +1,60 @@
 -- `lines::put_unhex` meets its contract. Assumes nothing.
-use mathlib.Core.Path.{_≡_, refl}
-use mathlib.Core.Bool.{true}
-use mathlib.Core.List.{_++_}
-use Prim.Native.Nat.{_+_, _*_, _≤_, _-_}
+use mathlib.Core.Path.{_≡_, refl, sym, _∙_, ap}
+use mathlib.Core.List.{List, _∷_, _++_}
+use Prim.Native.Nat.{ℕ, _+_, _*_, _≤_, _-_}
 use native.Mathlib.Omega.{arith}
 use lib.ListN.{length, take, drop, length-set}
 use borrow.Author.Needs.{needs}
-use Rattle.lines.specs.Lines.{unhex}
-use Rattle.octets.proofs.Laws.{write-on, write-done, read-done}
-use Rattle.lines.specs.Hex.{there, bytesOf}
-use Rattle.lines.proofs.Laws.{high, low, later, byte-on}
+use Rattle.octets.proofs.Laws.{read-on, read-done, write-on, write-done}
+use Rattle.lines.specs.Hex.{bytesIn}
+use Rattle.lines.proofs.Laws.{high, low}
+use Rattle.lines.proofs.Bytes.{bytes-length, hex-drop, byte-here}
 use Rattle.lines.proofs.put_unhex.Statement.{statement}
 use Rattle.lines.proofs.put_unhex.Tie as tie
 
 abbrev Inv-loop : tie.InvT-loop
-Inv-loop out₀ s i₀ at₀ out i at =
-    (i ≤ length out) × (length out ≡ length out₀) × (length s ≡ 2 * length out) × (at ≡ 2 * i) × (there (unhex (drop at s)) ≡ true)
-    × (bytesOf (unhex s) ≡ take i out ++ bytesOf (unhex (drop at s)))
+Inv-loop out₀ s n i₀ out i =
+    (i ≤ n) × (n ≡ length out₀) × (length out ≡ n) × (length s ≡ 2 * n) × (bytesIn s ≡ take i out ++ drop i (bytesIn s))
 
 abbrev μ-loop : tie.MeasureT-loop
-μ-loop out₀ s i₀ at₀ out i at = length out₀ - i
+μ-loop out₀ s n i₀ out i = n - i
 
 nibble-requires : tie.Need-nibble-requires Inv-loop μ-loop
-nibble-requires c κs = let l = c .before .before .loop in high (c .before .before .before .before .before .args .s .now) (l .at) (omega arith) (l .inv .4)
+nibble-requires c κs =
+    let p = c .before .before .before .before .before in
+    let s = p .args .s .now in
+    let l = c .before .before .loop in
+    high s (2 * l .i) (omega arith) (hex-drop s (l .i) (p .pre .0))
 
 nibble-requires-2 : tie.Need-nibble-requires-2 Inv-loop μ-loop
-nibble-requires-2 c κs = let l = c .before .before .before .before .loop in low (c .before .before .before .before .before .before .before .args .s .now) (l .at) (omega arith) (l .inv .4)
+nibble-requires-2 c κs =
+    let p = c .before .before .before .before .before .before .before in
+    let s = p .args .s .now in
+    let l = c .before .before .before .before .loop in
+    low s (2 * l .i) (omega arith) (hex-drop s (l .i) (p .pre .0))
 
 loop-again : tie.Need-loop-again Inv-loop μ-loop
 loop-again c =
+    let p = c .before .before .before .before .before .before .before .before in
+    let s = p .args .s .now in
     let l = c .before .before .before .before .before .loop in
-    let s = c .before .before .before .before .before .before .before .before .args .s .now in
-    let e = byte-on s (l .at) (omega arith) (l .inv .4) _ _ (c .before .before .nibble .ensures .0) (c .nibble2 .ensures .0) in (
-      simp length-set (omega arith),
-      simp length-set (omega arith),
-      simp length-set (omega arith),
+    let n = bytes-length s (p .pre .0) in
+    let b = byte-here s (l .i) _ _ (omega arith) (p .pre .0) (c .before .before .nibble .ensures .0) (c .nibble2 .ensures .0) in (
       omega arith,
-      later s (l .at) (omega arith) (l .inv .4),
-      write-on (l .out) (l .i) _ (omega arith) (l .inv .5) e,
+      refl,
+      simp length-set (l .inv .2),
+      l .inv .3,
+      write-on (l .out) (l .i) _ (omega arith) (l .inv .4)
+          (read-on (bytesIn s) (l .i) (omega arith) ∙ ap (λ (x : ℕ). x ∷ drop (l .i + 1) (bytesIn s)) (sym b)),
     )
 
 returns : tie.Need-returns Inv-loop μ-loop
 returns c =
+    let p = c .before .before .before .before in
+    let s = p .args .s .now in
     let l = c .before .loop in
-    write-done (l .out) (l .i) (omega arith) (l .inv .5) (rw (read-done (c .before .before .before .before .args .s .now) (l .at) (omega arith)))
+    let n = bytes-length s (p .pre .0) in
+    write-done (l .out) (l .i) (omega arith) (l .inv .4) (read-done (bytesIn s) (l .i) (omega arith))
 
 pub put-unhex-spec : {M : Type 1} → statement M
 put-unhex-spec =
@@ -51,13 +62,13 @@ put-unhex-spec =
     (tie.spec
     Inv-loop
     μ-loop
-    (λ c. (search needs, search needs, search needs, search needs, c .before .before .pre .0, refl))
-    (search needs)
-    nibble-requires
+    (λ c. (search needs, search needs, search needs, search needs, refl))
     (search needs) (search needs)
+    nibble-requires
+    (search needs) (search needs) (search needs)
     nibble-requires-2
     (search needs) (search needs) (search needs) (search needs)
-    (search needs) (search needs)
+    (search needs)
     loop-again
     (search needs)
     returns)
