@@ -64,6 +64,11 @@ points bs = pointsFrom idle bs
 abbrev pub isText : List ℕ → Bool
 isText bs = elim (points bs) [ none ↦ false | some cs ↦ true ]
 
+-- whether every byte is ASCII, 0xxxxxxx: a code point by itself
+abbrev pub allAscii : List ℕ → Bool
+allAscii [] = true
+allAscii (b ∷ bs) = leb b 127 && allAscii bs
+
 abbrev pub hasZero : List ℕ → Bool
 hasZero [] = false
 hasZero (b ∷ bs) = eqb b 0 || hasZero bs

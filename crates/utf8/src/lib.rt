@@ -1,9 +1,10 @@
 // UTF-8 as RFC 3629 gives it, of texts in hexadecimal.
 ghost use mathlib.Core.Path.{_≡_};
-ghost use mathlib.Core.Bool.{true};
+ghost use mathlib.Core.Bool.{true, cond};
 ghost use Prim.Native.Nat.{_+_, _≤_, _<_};
+ghost use lib.Dec.{leb};
 ghost use Rattle.lines.specs.Hex.{isHex, bytesIn};
-ghost use Rattle.utf8.specs.Utf8.{allowed, leads, continues, next, isText, hasZero};
+ghost use Rattle.utf8.specs.Utf8.{allowed, leads, continues, next, isText, allAscii, hasZero};
 ghost use Rattle.utf8.specs.Wait.{idleWait, waitOf, nextOf, Fine, FineNext};
 
 // Where a text stands between two bytes: a code point of which `left` bytes are still to come.
@@ -127,8 +128,33 @@ pub fn step(w: Wait, b: u8) -> Next
     proceed(w, b)
 }
 
-// Whether the bytes of the hexadecimal `s` are UTF-8.
-pub fn is_text(s: &[u8]) -> bool
+// 0 for the first digit of an ASCII byte, `0` to `7`, and 1 for the others.
+fn not_low(c: u8) -> u8
+    ensures { λ r. ⌜ r ≡ cond (leb c 55) 0 1 ⌝ }
+{
+    if c < 56 {
+        return 0;
+    }
+    1
+}
+
+// Whether every byte of the hexadecimal `s` is ASCII. All are looked at, with no early end, so that the compiler takes many at a time.
+fn is_ascii(s: &[u8]) -> bool
+    requires { ⌜ isHex (now s) ≡ true ⌝ }
+    ensures { λ r. ⌜ r ≡ allAscii (bytesIn (now (s .entry))) ⌝ }
+{
+    let n = s.len() / 2;
+    let mut high: u8 = 0;
+    let mut i = 0;
+    while i < n {
+        high = high | not_low(s[2 * i]);
+        i += 1;
+    }
+    high == 0
+}
+
+// Whether the bytes of the hexadecimal `s` are UTF-8, byte by byte.
+fn is_utf8(s: &[u8]) -> bool
     requires { ⌜ isHex (now s) ≡ true ⌝ }
     ensures { λ r. ⌜ r ≡ isText (bytesIn (now (s .entry))) ⌝ }
 {
@@ -151,6 +177,17 @@ pub fn is_text(s: &[u8]) -> bool
         }
     }
     w.left == 0
+}
+
+// Whether the bytes of the hexadecimal `s` are UTF-8. Most texts are ASCII, and those need no look at each byte by itself.
+pub fn is_text(s: &[u8]) -> bool
+    requires { ⌜ isHex (now s) ≡ true ⌝ }
+    ensures { λ r. ⌜ r ≡ isText (bytesIn (now (s .entry))) ⌝ }
+{
+    if is_ascii(s) {
+        return true;
+    }
+    is_utf8(s)
 }
 
 // Whether a zero byte stands among the bytes of the hexadecimal `s`.
