@@ -1,5 +1,5 @@
 -- Walks that look at every byte and gather what they find in one number, 0 as long as nothing was found. Such a walk has no early end.
-use mathlib.Core.Path.{_≡_, refl, sym, _∙_, ap}
+use mathlib.Core.Path.{_≡_, sym, _∙_, ap}
 use mathlib.Core.Bool.{Bool, true, false, cond, _&&_, _||_, not, and-false, or-true}
 use Prim.Native.Nat.{ℕ}
 use native.Mathlib.Omega.{arith}

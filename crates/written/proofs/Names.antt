@@ -37,7 +37,7 @@ points-length w (b ∷ bs) = go (next w b) (points-length idle bs) (λ v. points
     go (more v) h i = omega (arith, i v)
     go bad h i = omega arith
 
-rest-length : (cs : List ℕ) → length (restWritten cs) ≡ length cs
+pub rest-length : (cs : List ℕ) → length (restWritten cs) ≡ length cs
 rest-length [] = refl
 rest-length (c ∷ cs) = ap suc (rest-length cs)
 
