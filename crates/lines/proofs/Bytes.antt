@@ -91,6 +91,14 @@ bytes-take (c ∷ d ∷ cs) (suc n) t =
     let g = front c d (take (2 * n) cs) (hex-cons c d (take (2 * n) cs) (f .high) (f .low) (hex-take cs n (f .rest))) in
     rw (doubled n, g .bytes, f .bytes, bytes-take cs n (f .rest))
 
+-- each character is a digit
+pub digit-at : (s : List ℕ) → isHex s ≡ true → (k : ℕ) → k < length s → there (digit (getD s k 0)) ≡ true
+digit-at [] t k h = absurd (omega arith)
+digit-at (c ∷ []) t k h = absurd (no t)
+digit-at (c ∷ d ∷ cs) t zero h = front c d cs t .high
+digit-at (c ∷ d ∷ cs) t (suc zero) h = front c d cs t .low
+digit-at (c ∷ d ∷ cs) t (suc (suc k)) h = digit-at cs (front c d cs t .rest) k (omega arith)
+
 -- byte `i` is what the characters 2 i and 2 i + 1 give
 pub byte-here : (s : List ℕ) (i x y : ℕ) → 2 * i + 1 < length s → isHex s ≡ true
     → some x ≡ digit (getD s (2 * i) 0) → some y ≡ digit (getD s (2 * i + 1) 0) → x * 16 + y ≡ getD (bytesIn s) i 0

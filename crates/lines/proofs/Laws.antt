@@ -139,20 +139,8 @@ pair-on x y a b none p q t = absurd (no t)
 pair-on x y a b (some z) p q t = rw (← p, ← q)
 
 module _ (s : List ℕ) (at : ℕ) (h : at + 1 < length s) (t : there (unhex (drop at s)) ≡ true) where
-  three : (there (digit (getD s at 0)) && there (digit (getD s (at + 1) 0)) && there (unhex (drop (at + 2) s))) ≡ true
-  three = sym (hex-on s at h) ∙ t
-
-  two : ((there (digit (getD s at 0)) && there (digit (getD s (at + 1) 0))) ≡ true) × (there (unhex (drop (at + 2) s)) ≡ true)
-  two = both (there (digit (getD s at 0)) && there (digit (getD s (at + 1) 0))) (there (unhex (drop (at + 2) s))) three
-
-  pub high : there (digit (getD s at 0)) ≡ true
-  high = both (there (digit (getD s at 0))) (there (digit (getD s (at + 1) 0))) (two .0) .0
-
-  pub low : there (digit (getD s (at + 1) 0)) ≡ true
-  low = both (there (digit (getD s at 0))) (there (digit (getD s (at + 1) 0))) (two .0) .1
-
-  pub later : there (unhex (drop (at + 2) s)) ≡ true
-  later = two .1
+  later : there (unhex (drop (at + 2) s)) ≡ true
+  later = both (there (digit (getD s at 0)) && there (digit (getD s (at + 1) 0))) (there (unhex (drop (at + 2) s))) (sym (hex-on s at h) ∙ t) .1
 
   pub byte-on : (x y : ℕ) → some x ≡ digit (getD s at 0) → some y ≡ digit (getD s (at + 1) 0)
       → bytesOf (unhex (drop at s)) ≡ (x * 16 + y) ∷ bytesOf (unhex (drop (at + 2) s))

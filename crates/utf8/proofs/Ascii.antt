@@ -13,8 +13,8 @@ use Rattle.octets.proofs.Laws.{read-on, read-done}
 use Rattle.octets.proofs.Tests.{and-true-both}
 use Rattle.octets.proofs.Gather.{all-on}
 use Rattle.lines.specs.Hex.{there, isHex, bytesIn}
-use Rattle.lines.proofs.Laws.{high, low, no}
-use Rattle.lines.proofs.Bytes.{numberOf, hex-drop, byte-here}
+use Rattle.lines.proofs.Laws.{no}
+use Rattle.lines.proofs.Bytes.{numberOf, digit-at, byte-here}
 use Rattle.lines.proofs.Same.{digit-is}
 use Rattle.utf8.specs.Utf8.{idle, point, put, points, isText, allAscii}
 use Rattle.utf8.proofs.Laws.{took, ok}
@@ -52,8 +52,8 @@ numbered (some n) t = refl
 
 pub first-digit : (s : List ℕ) (i : ℕ) → 2 * i + 1 < length s → isHex s ≡ true → leb (getD s (2 * i) 0) 55 ≡ leb (getD (bytesIn s) i 0) 127
 first-digit s i h t =
-    let p = high s (2 * i) h (hex-drop s i t) in
-    let q = low s (2 * i) h (hex-drop s i t) in
+    let p = digit-at s t (2 * i) (omega arith) in
+    let q = digit-at s t (2 * i + 1) h in
     let c = digit-is (getD s (2 * i) 0) p in
     let d = digit-is (getD s (2 * i + 1) 0) q in
     let b = byte-here s i _ _ h t (numbered _ p) (numbered _ q) in

@@ -121,7 +121,7 @@ fn points_len(s: &[u8]) -> usize
     n
 }
 
-// How long the written name of `s` is. Most names are ASCII, and those are as long as they are written, but for the empty one.
+// How long the written name of `s` is. Most names are ASCII, and the written name is then as long as the name, but for the empty one.
 pub fn written_len(s: &[u8]) -> usize
     ensures { λ r. ⌜ r ≡ length (written (now (s .entry))) ⌝ }
 {

@@ -1,22 +1,19 @@
 -- `lines::byte_at` meets its contract. Assumes nothing.
 use native.Mathlib.Omega.{arith}
 use borrow.Author.Needs.{needs}
-use Rattle.lines.proofs.Laws.{high, low}
-use Rattle.lines.proofs.Bytes.{hex-drop, byte-here}
+use Rattle.lines.proofs.Bytes.{digit-at, byte-here}
 use Rattle.lines.proofs.byte_at.Statement.{statement}
 use Rattle.lines.proofs.byte_at.Tie as tie
 
 nibble-requires : tie.Need-nibble-requires
 nibble-requires c κs =
     let p = c .before .before in
-    let s = p .args .s .now in
-    high s _ (p .pre .1) (hex-drop s (p .args .i) (p .pre .0))
+    digit-at (p .args .s .now) (p .pre .0) _ (omega arith)
 
 nibble-requires-2 : tie.Need-nibble-requires-2
 nibble-requires-2 c κs =
     let p = c .before .before .before .before in
-    let s = p .args .s .now in
-    low s _ (p .pre .1) (hex-drop s (p .args .i) (p .pre .0))
+    digit-at (p .args .s .now) (p .pre .0) _ (omega arith)
 
 returns : tie.Need-returns
 returns c =

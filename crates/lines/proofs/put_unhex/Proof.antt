@@ -7,8 +7,7 @@ use lib.ListN.{length, take, drop, length-set}
 use borrow.Author.Needs.{needs}
 use Rattle.octets.proofs.Laws.{read-on, read-done, write-on, write-done}
 use Rattle.lines.specs.Hex.{bytesIn}
-use Rattle.lines.proofs.Laws.{high, low}
-use Rattle.lines.proofs.Bytes.{bytes-length, hex-drop, byte-here}
+use Rattle.lines.proofs.Bytes.{bytes-length, digit-at, byte-here}
 use Rattle.lines.proofs.put_unhex.Statement.{statement}
 use Rattle.lines.proofs.put_unhex.Tie as tie
 
@@ -22,16 +21,12 @@ abbrev μ-loop : tie.MeasureT-loop
 nibble-requires : tie.Need-nibble-requires Inv-loop μ-loop
 nibble-requires c κs =
     let p = c .before .before .before .before .before in
-    let s = p .args .s .now in
-    let l = c .before .before .loop in
-    high s (2 * l .i) (omega arith) (hex-drop s (l .i) (p .pre .0))
+    digit-at (p .args .s .now) (p .pre .0) _ (omega arith)
 
 nibble-requires-2 : tie.Need-nibble-requires-2 Inv-loop μ-loop
 nibble-requires-2 c κs =
     let p = c .before .before .before .before .before .before .before in
-    let s = p .args .s .now in
-    let l = c .before .before .before .before .loop in
-    low s (2 * l .i) (omega arith) (hex-drop s (l .i) (p .pre .0))
+    digit-at (p .args .s .now) (p .pre .0) _ (omega arith)
 
 loop-again : tie.Need-loop-again Inv-loop μ-loop
 loop-again c =

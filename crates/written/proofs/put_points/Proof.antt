@@ -57,7 +57,7 @@ fits : (c : tie.After-written-char Inv-loop μ-loop) → let l = c .before .befo
 fits c = let l = c .before .before .before .before .before .before .before .loop in room (l .out) _ (l .n) _ (l .inv .3) (next c .0)
 
 slice-write-out : tie.Need-slice-write-out Inv-loop μ-loop
-slice-write-out c = fits c
+slice-write-out c = omega (arith, fits c)
 
 add-n : tie.Need-add-n Inv-loop μ-loop
 add-n c = omega (arith, fits c)
