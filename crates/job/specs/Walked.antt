@@ -150,12 +150,15 @@ abbrev pub refusedWith : Refusal → BpfObject → Parsed
 refusedWith r o = record { answer = parsing.Refused r; object = o }
 
 -- the answer at the end of the text; a table that is full is refused, which the walk's counts rule out
-abbrev pub closedAs : Adding → BpfObject → ℕ → Parsed
-closedAs adding.Done o count = record { answer = parsing.Accepted; object = o }
-closedAs adding.Full o count = refusedWith (refusal.OverLimit count) o
+abbrev pub endedAs : Adding → ℕ → Parsing
+endedAs adding.Done count = parsing.Accepted
+endedAs adding.Full count = parsing.Refused (refusal.OverLimit count)
+
+abbrev pub finishedWith : Added → ℕ → Parsed
+finishedWith a count = record { answer = endedAs (a .answer) count; object = a .object }
 
 abbrev pub finishedOf : BpfObject → ℕ → Program → ℕ → Parsed
-finishedOf o opened p count = closedAs (closedOf o opened p .answer) (closedOf o opened p .object) count
+finishedOf o opened p count = finishedWith (closedOf o opened p) count
 
 -- the answer as the definition has it: the tables read as a job, or the refusal's number and line
 abbrev pub parsingIn : List ℕ → Parsing → BpfObject → Checked

@@ -6,7 +6,7 @@ ghost use lib.ListN.{length};
 ghost use Rattle.object.specs.Tables.{Sound};
 ghost use Rattle.refusals.specs.Checked.{Stage, takeLines, empty, checked};
 ghost use Rattle.lines.specs.Lines.{lines};
-ghost use Rattle.job.specs.Walked.{LineSays, openedAt, codeAdded, relocAdded, closedOf, builtOf, builtWith, refusedWith, finishedOf, countsOf, Saying, parsedIn, ParsedKept};
+ghost use Rattle.job.specs.Walked.{LineSays, openedAt, codeAdded, relocAdded, closedOf, builtOf, builtWith, refusedWith, endedAs, finishedOf, countsOf, Saying, parsedIn, ParsedKept};
 ghost use Rattle.lookup.specs.Names.{Names};
 ghost use Rattle.judge.specs.Judged.{Agrees, Held};
 use ast::Name;
@@ -248,21 +248,26 @@ fn walk(text: &[u8]) -> Parsed
     finish(object, opened, program, count)
 }
 
-// The end of the text: the open program is added, and the job is accepted.
+// What the end of the text gives: the job is accepted where the open program found its place.
+fn ended(answer: Adding, count: usize) -> Parsing
+    ensures { λ r. ⌜ r ≡ endedAs answer count ⌝ }
+{
+    let Adding::Done = answer else {
+        return Parsing::Refused(Refusal::OverLimit(count));
+    };
+    Parsing::Accepted
+}
+
+// The end of the text: the open program is added, and the job is accepted. There is one end, since the tables are copied for each.
 fn finish(object: BpfObject, opened: usize, program: Program, count: usize) -> Parsed
     requires { ⌜ Sound object ⌝ }
     ensures { λ r. ⌜ r ≡ finishedOf object opened program count ⌝ }
 {
     let closed = close(object, opened, program);
-    let answer = closed.answer;
+    let step = closed.answer;
     let object = closed.object;
-    let Adding::Done = answer else {
-        return refused(Refusal::OverLimit(count), object);
-    };
-    Parsed {
-        answer: Parsing::Accepted,
-        object,
-    }
+    let answer = ended(step, count);
+    Parsed { answer, object }
 }
 
 // The job of a text, or the one refusal that the table gives.

@@ -136,42 +136,40 @@ impl BpfObject {
         }
     }
 
+    // A map that is added and a table that is full leave by the one end: a state that goes by value is copied for each end.
     pub fn add_map(mut self, decl: MapDecl, name: Name) -> Added
         requires { ⌜ Sound self ⌝ }
         ensures { λ r. ⌜ r ≡ addedMap self decl name ⌝ }
     {
         let n = self.map_count;
+        let mut answer = Adding::Full;
         if n < BpfObject::MAPS {
             self.maps[n] = decl;
             self.map_at[n] = name.at;
             self.map_len[n] = name.len;
             self.map_count = n + 1;
-            return Added {
-                answer: Adding::Done,
-                object: self,
-            };
+            answer = Adding::Done;
         }
         Added {
-            answer: Adding::Full,
+            answer,
             object: self,
         }
     }
 
+    // There is one end here too, for the same reason.
     pub fn add_program(mut self, program: Program) -> Added
         requires { ⌜ Sound self ⌝ }
         ensures { λ r. ⌜ r ≡ addedProgram self program ⌝ }
     {
         let n = self.program_count;
+        let mut answer = Adding::Full;
         if n < BpfObject::PROGRAMS {
             self.programs[n] = program;
             self.program_count = n + 1;
-            return Added {
-                answer: Adding::Done,
-                object: self,
-            };
+            answer = Adding::Done;
         }
         Added {
-            answer: Adding::Full,
+            answer,
             object: self,
         }
     }

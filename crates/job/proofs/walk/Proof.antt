@@ -19,7 +19,7 @@ use Rattle.judge.specs.declared.Verdict.{Verdict}
 use Rattle.refusals.specs.declared.Refusal.{Refusal}
 use Rattle.job.specs.declared.Parsed.{Parsed}
 use Rattle.job.specs.declared.Parsing.the-variants.{Accepted}
-use Rattle.job.specs.Walked.{Saying, countsOf, closedOf, closedObject, closedAs, finishedOf, stageIn, refusedWith, parsedIn, ParsedKept}
+use Rattle.job.specs.Walked.{Saying, countsOf, closedOf, closedObject, finishedWith, finishedOf, stageIn, refusedWith, parsedIn, ParsedKept}
 use Rattle.job.proofs.Walking.{Walking, start, maps-counted, programs-counted}
 use Rattle.job.proofs.Steps.{closing, code-on, reloc-on, declared-on, line-room, code-room, reloc-room, names, held, ended}
 use Rattle.job.proofs.walk.Statement.{statement}
@@ -177,7 +177,7 @@ finish-requires c κs = c .before .loop .inv .kept .sound
 
 accepts : (text : List ℕ) (o : BpfObject) (opened : ℕ) (p : Program) (n : ℕ) (r : Parsed) → r ≡ finishedOf o opened p n → closedOf o opened p ≡ done (closedObject o opened p)
     → r ≡ record { answer = Accepted; object = closedObject o opened p }
-accepts text o opened p n r e d = e ∙ ap (λ (x : Added). closedAs (x .answer) (x .object) n) d
+accepts text o opened p n r e d = e ∙ ap (λ (x : Added). finishedWith x n) d
 
 returns-3 : tie.Need-returns-3 Inv-loop μ-loop
 returns-3 c =
