@@ -1,16 +1,15 @@
 -- What one line adds to a program's code: the bytes of a frame 04, the instruction that a frame 06 stands for, or nothing.
-use mathlib.Core.Path.{_≡_, refl, sym, _∙_, ap}
+use mathlib.Core.Path.{_≡_, refl, sym}
 use mathlib.Core.Bool.{Bool, true, false, cond}
 use mathlib.Core.Option.{Option, none, some}
 use mathlib.Core.List.{List, [], _∷_}
-use mathlib.Core.Logic.{_⊎_, inl, inr, ⊎-elim}
-use Prim.Native.Nat.{ℕ, suc, _+_, _-_, _*_, _≤_}
+use Prim.Native.Nat.{ℕ, _+_, _-_, _*_, _≤_}
 use native.Mathlib.Nat.{add-zero}
 use native.Mathlib.Omega.{arith}
 use lib.Dec.{leb, eqb}
 use lib.ListN.{length, take, drop, getD, length-drop, take-append-drop}
 use lib.Seq.{take-all}
-use borrow.Author.Tests.{eqb-true}
+use borrow.Author.Tests.{eqb-true, eq-eqb, ne-eqb}
 use Rattle.octets.specs.Octets.{value}
 use Rattle.octets.specs.Over.{over}
 use Rattle.lines.specs.Hex.{isHex, bytesIn}
@@ -20,10 +19,7 @@ use Rattle.ast.specs.declared.MapType.{MapType}
 use Rattle.insn.specs.Insn.{insnOf, insnBytes}
 use Rattle.insn.specs.declared.Insn.{Insn}
 use Rattle.frames.specs.Frames as model
-use Rattle.frames.specs.Frames.{licence, mapDecl, program, code, relocation, bit, typeIf, countIf, mapAttrs, mapFrame, programFrame, relocationFrame, instructionFrame, frameOf}
-use Rattle.frames.specs.Shown.{shown}
-use Rattle.frames.specs.declared.Frame.{Frame}
-use Rattle.frames.specs.declared.Frame.the-variants.{Instruction}
+use Rattle.frames.specs.Frames.{program, relocation, bit, typeIf, countIf, mapAttrs, mapFrame, programFrame, relocationFrame, instructionFrame, frameOf}
 use Rattle.object.specs.Read.{frameCode}
 use Rattle.bodies.specs.Code.{insnIn}
 
@@ -57,71 +53,66 @@ insn-read bs r i op dst src off imm n q e c d s o m =
     let t : take 4 (drop 6 bs) ≡ drop 6 bs = take-all 4 (drop 6 bs) (rw length-drop (omega arith)) in
     rw (q, e, c, d, s, o, m, t)
 
--- code of a frame of `n` bytes is what stands behind the first of them, or an instruction's, of which the frame has ten
-abbrev Sized : ℕ → Option model.Frame → Type 0
-Sized n none = Unit
-Sized n (some (licence text)) = Unit
-Sized n (some (mapDecl kind key val entries name)) = Unit
-Sized n (some (program section symbol)) = Unit
-Sized n (some (code bytes)) = (n ≡ suc (length bytes)) ⊎ (n ≡ 10)
-Sized n (some (relocation offset name)) = Unit
+-- ---- any frame: its code by its first byte and its length
 
-module _ (n : ℕ) where
-  -- whichever way a test goes, and whether or not an attribute is there
-  either : (b : Bool) (x y : Option model.Frame) → Sized n x → Sized n y → Sized n (cond b x y)
-  either true x y p q = p
-  either false x y p q = q
+-- nothing, whichever way a test goes, and whether or not an attribute is there
+either : (b : Bool) (x y : Option model.Frame) → frameCode x ≡ [] → frameCode y ≡ [] → frameCode (cond b x y) ≡ []
+either true x y p q = p
+either false x y p q = q
 
-  each : {A : Type 0} (o : Option A) (f : A → Option model.Frame) → ((a : A) → Sized n (f a)) → Sized n (elim o [ none ↦ none | some a ↦ f a ])
-  each none f h = tt
-  each (some a) f h = h a
+each : {A : Type 0} (o : Option A) (f : A → Option model.Frame) → ((a : A) → frameCode (f a) ≡ []) → frameCode (elim o [ none ↦ none | some a ↦ f a ]) ≡ []
+each none f h = refl
+each (some a) f h = h a
 
-  sized-attrs : (t : MapType) (p : ℕ) (bs : List ℕ) → Sized n (mapAttrs t p bs)
-  sized-attrs t p bs =
-      each (typeIf (bit 1 p) bs) _ (λ k. each (typeIf (bit 2 p) (k .rest)) _ (λ v. each (countIf (bit 4 p) (v .rest)) _ (λ m. tt)))
+no-attrs : (t : MapType) (p : ℕ) (bs : List ℕ) → frameCode (mapAttrs t p bs) ≡ []
+no-attrs t p bs =
+    each (typeIf (bit 1 p) bs) _ (λ k. each (typeIf (bit 2 p) (k .rest)) _ (λ v. each (countIf (bit 4 p) (v .rest)) _ (λ m. refl)))
 
-  sized-map : (bs : List ℕ) → Sized n (mapFrame bs)
-  sized-map [] = tt
-  sized-map (t ∷ []) = tt
-  sized-map (t ∷ p ∷ bs) = each (mapType t) _ (λ k. either (leb p 7) (mapAttrs k p bs) none (sized-attrs k p bs) tt)
+no-map : (bs : List ℕ) → frameCode (mapFrame bs) ≡ []
+no-map [] = refl
+no-map (t ∷ []) = refl
+no-map (t ∷ p ∷ bs) = each (mapType t) _ (λ k. either (leb p 7) (mapAttrs k p bs) none (no-attrs k p bs) refl)
 
-  sized-program : (bs : List ℕ) → Sized n (programFrame bs)
-  sized-program [] = tt
-  sized-program (m ∷ bs) = either (leb m (length bs)) (some (program (take m bs) (drop m bs))) none tt tt
+no-program : (bs : List ℕ) → frameCode (programFrame bs) ≡ []
+no-program [] = refl
+no-program (m ∷ bs) = either (leb m (length bs)) (some (program (take m bs) (drop m bs))) none refl refl
 
-  sized-relocation : (bs : List ℕ) → Sized n (relocationFrame bs)
-  sized-relocation bs = either (leb 8 (length bs)) (some (relocation (value (take 8 bs)) (drop 8 bs))) none tt tt
+no-relocation : (bs : List ℕ) → frameCode (relocationFrame bs) ≡ []
+no-relocation bs = either (leb 8 (length bs)) (some (relocation (value (take 8 bs)) (drop 8 bs))) none refl refl
 
-sized-instruction : (n : ℕ) (bs : List ℕ) → n ≡ suc (length bs) → Sized n (instructionFrame bs)
-sized-instruction n [] h = tt
-sized-instruction n (c ∷ []) h = tt
-sized-instruction n (c ∷ d ∷ []) h = tt
-sized-instruction n (c ∷ d ∷ s ∷ bs) h = go (eqb (length bs) 6) refl
+no-instruction : (bs : List ℕ) → (length bs ≡ 9 → ⊥) → frameCode (instructionFrame bs) ≡ []
+no-instruction [] h = refl
+no-instruction (c ∷ []) h = refl
+no-instruction (c ∷ d ∷ []) h = refl
+no-instruction (c ∷ d ∷ s ∷ bs) h = rw (ne-eqb (length bs) 6 (λ e. h (omega arith)))
+
+instruction : (bs : List ℕ) → length bs ≡ 9 → frameCode (instructionFrame bs) ≡ insnIn (6 ∷ bs)
+instruction [] h = absurd (omega arith)
+instruction (c ∷ []) h = absurd (omega arith)
+instruction (c ∷ d ∷ []) h = absurd (omega arith)
+instruction (c ∷ d ∷ s ∷ bs) h = rw (eq-eqb (length bs) 6 (omega arith))
+
+-- a frame 04 gives the bytes behind its first
+pub code-of-four : (bs : List ℕ) → getD bs 0 0 ≡ 4 → frameCode (frameOf bs) ≡ drop 1 bs
+code-of-four [] h = absurd (omega arith)
+code-of-four (k ∷ bs) h = rw h
+
+-- a frame 06 of ten bytes gives its instruction
+pub code-of-six : (bs : List ℕ) → getD bs 0 0 ≡ 6 → length bs ≡ 10 → frameCode (frameOf bs) ≡ insnIn bs
+code-of-six [] h n = absurd (omega arith)
+code-of-six (k ∷ bs) h n = rw h (instruction bs (omega arith))
+
+-- every other frame gives none
+pub code-of-others : (bs : List ℕ) → (getD bs 0 0 ≡ 4 → ⊥) → (getD bs 0 0 ≡ 6 → length bs ≡ 10 → ⊥) → frameCode (frameOf bs) ≡ []
+code-of-others [] f s = refl
+code-of-others (k ∷ bs) f s =
+    either (eqb k 1) _ _ refl
+    (either (eqb k 2) _ _ (no-map bs)
+    (either (eqb k 3) _ _ (no-program bs) (rw (ne-eqb k 4 f) (either (eqb k 5) _ _ (no-relocation bs) (six (eqb k 6) refl)))))
   where
-    go : (b : Bool) → eqb (length bs) 6 ≡ b → Sized n (cond b (some (code (insnBytes c d s (value (take 2 bs)) (value (drop 2 bs))))) none)
-    go true e = inr (omega (arith, eqb-true (length bs) 6 e))
-    go false e = tt
-
-sized : (bs : List ℕ) → Sized (length bs) (frameOf bs)
-sized [] = tt
-sized (k ∷ bs) =
-    let n = suc (length bs) in
-    either n (eqb k 1) _ _ tt
-    (either n (eqb k 2) _ _ (sized-map n bs)
-    (either n (eqb k 3) _ _ (sized-program n bs)
-    (either n (eqb k 4) _ _ (inl refl)
-    (either n (eqb k 5) _ _ (sized-relocation n bs)
-    (either n (eqb k 6) _ _ (sized-instruction n bs refl) tt)))))
-
--- an instruction has ten bytes: eight of code behind a first byte would be nine
-pub instruction-ten : (bs : List ℕ) → 10 ≤ length bs → shown bs Instruction ≡ frameOf bs → length bs ≡ 10
-instruction-ten bs h e = ⊎-elim (λ n. omega arith) (λ n. n) (rw (← e) at (sized bs))
-
--- ---- any frame
-
--- the code by what the frame was read as
-pub code-shown : (bs : List ℕ) (r v : Frame) → shown bs r ≡ frameOf bs → r ≡ v → frameCode (frameOf bs) ≡ frameCode (shown bs v)
-code-shown bs r v e q = sym (ap frameCode e) ∙ ap (λ (x : Frame). frameCode (shown bs x)) q
+    six : (b : Bool) → eqb k 6 ≡ b → frameCode (cond b (instructionFrame bs) none) ≡ []
+    six true e = no-instruction bs (λ n. s (eqb-true k 6 e) (omega arith))
+    six false e = refl
 
 -- a line that adds nothing
 pub nothing-added : (d : List ℕ) (at : ℕ) (t : List ℕ) → t ≡ [] → (d ≡ over d at t) × (at ≡ at + length t)

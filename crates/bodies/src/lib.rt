@@ -9,7 +9,6 @@ ghost use Rattle.frames.specs.Frames.{frameOf};
 ghost use Rattle.object.specs.Read.{frameCode, codeOf, body};
 ghost use Rattle.object.specs.Kept.{AllFrames};
 ghost use Rattle.bodies.specs.Code.{insnIn};
-use frames::Frame;
 use insn::Insn;
 use lines::LineEnd;
 
@@ -40,7 +39,7 @@ fn put_bytes(out: &mut [u8], line: &[u8])
     lines::put_unhex(out, &line[2..]);
 }
 
-// The code that a line adds, over what stands at `at`; the place behind it.
+// The code that a line adds, over what stands at `at`; the place behind it. The first byte and the length tell which code it is.
 fn put_frame(out: &mut [u8], at: usize, line: &[u8]) -> usize
     requires { ⌜ isHex (now line) ≡ true ⌝ }
     requires { ⌜ 1 ≤ length (now line) ⌝ }
@@ -48,23 +47,19 @@ fn put_frame(out: &mut [u8], at: usize, line: &[u8]) -> usize
     ensures { λ _. ⌜ now (out .exit) ≡ over (now (out .entry)) at (frameCode (frameOf (bytesIn (now (line .entry))))) ⌝ }
     ensures { λ r. ⌜ r ≡ at + length (frameCode (frameOf (bytesIn (now (line .entry))))) ⌝ }
 {
-    let frame = frames::read_frame(line);
-    match frame {
-        Frame::Code => {
-            let n = line.len() / 2 - 1;
-            put_bytes(&mut out[at..at + n], line);
-            at + n
-        }
-        Frame::Instruction => {
-            put_insn(&mut out[at..at + 8], line);
-            at + 8
-        }
-        Frame::Licence => at,
-        Frame::Map { decl: _, name: _ } => at,
-        Frame::Program { symbol: _ } => at,
-        Frame::Relocation => at,
-        Frame::Bad => at,
+    let kind = lines::byte_at(line, 0);
+    if kind == 4 {
+        let n = line.len() / 2 - 1;
+        put_bytes(&mut out[at..at + n], line);
+        return at + n;
     }
+    if kind == 6 {
+        if line.len() == 20 {
+            put_insn(&mut out[at..at + 8], line);
+            return at + 8;
+        }
+    }
+    at
 }
 
 // A program's code, frames 04 and 06 mixed in order, into a part of exactly its length.
