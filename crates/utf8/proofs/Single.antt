@@ -11,6 +11,8 @@ use Rattle.utf8.proofs.Wait.idle.Kinds as idle-kinds
 use Rattle.utf8.proofs.Wait.idle.Reads as idle
 use Rattle.utf8.proofs.step.Kinds as step-kinds
 use Rattle.utf8.proofs.step.Reads as step
+use Rattle.utf8.proofs.is_ascii.Kinds as is-ascii-kinds
+use Rattle.utf8.proofs.is_ascii.Reads as is-ascii
 use Rattle.utf8.proofs.is_text.Kinds as is-text-kinds
 use Rattle.utf8.proofs.is_text.Reads as is-text
 use Rattle.utf8.proofs.has_zero.Kinds as has-zero-kinds
@@ -41,6 +43,9 @@ next-once Bad Bad e = refl
 
 step-single : OneResult step-kinds.ps step-kinds.r step.Post
 step-single κs a z z′ e e′ p p′ = next-once z z′ (p .0 ∙ sym (p′ .0))
+
+is-ascii-single : OneResult is-ascii-kinds.ps is-ascii-kinds.r is-ascii.Post
+is-ascii-single κs a z z′ e e′ p p′ = p ∙ sym p′
 
 is-text-single : OneResult is-text-kinds.ps is-text-kinds.r is-text.Post
 is-text-single κs a z z′ e e′ p p′ = p ∙ sym p′

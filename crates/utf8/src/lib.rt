@@ -139,7 +139,7 @@ fn not_low(c: u8) -> u8
 }
 
 // Whether every byte of the hexadecimal `s` is ASCII. All are looked at, with no early end, so that the compiler takes many at a time.
-fn is_ascii(s: &[u8]) -> bool
+pub fn is_ascii(s: &[u8]) -> bool
     requires { ⌜ isHex (now s) ≡ true ⌝ }
     ensures { λ r. ⌜ r ≡ allAscii (bytesIn (now (s .entry))) ⌝ }
 {

@@ -1,35 +1,55 @@
 -- `named::written_size` meets its contract. Assumes nothing.
-use mathlib.Core.Path.{_≡_, _∙_, ap}
+use mathlib.Core.Path.{_≡_, refl, sym, _∙_, ap}
+use mathlib.Core.Bool.{true}
 use mathlib.Core.List.{List}
-use Prim.Native.Nat.{ℕ, _-_}
+use Prim.Native.Nat.{ℕ}
 use native.Mathlib.Omega.{arith}
-use lib.ListN.{length, replicate, take, drop}
+use lib.ListN.{length}
 use borrow.Author.Needs.{needs}
+use Rattle.utf8.specs.Utf8.{allAscii}
 use Rattle.written.specs.Written.{written}
+use Rattle.written.proofs.Ascii.{written-ascii, written-none, written-some}
 use Rattle.object.specs.Read.{nameIn}
-use Rattle.named.proofs.Names.{name-length, written-most, over-front}
+use Rattle.named.proofs.Names.{part-hex, part-name, name-length, written-most}
 use Rattle.named.proofs.written_size.Statement.{statement}
 use Rattle.named.proofs.written_size.Tie as tie
 
-put-name-requires : tie.Need-put-name-requires
-put-name-requires c κs =
-    let p = c .before .before .before in
-    (p .pre, omega (arith, p .pre .short))
+is-ascii-requires : tie.Need-is-ascii-requires
+is-ascii-requires c κs = let p = c .before .before .before .before in part-hex (p .args .text .now) (p .args .name) (p .pre)
+
+-- where the digits tell that the name is ASCII
+ascii : (c : tie.Then1) → let a = c .before .before .before .before .before .before .args in allAscii (nameIn (a .text .now) (a .name)) ≡ true
+ascii c =
+    let q = c .before in
+    let p = q .before .before .before .before .before in
+    sym (q .is-ascii .ensures ∙ ap allAscii (part-name (p .args .text .now) (p .args .name) (p .pre))) ∙ c .if1 .taken
 
 returns : tie.Need-returns
 returns c =
-    let q = c .before .before .before .before in
-    let p = q .before .before .before .before in
+    let q = c .before in
+    let p = q .before .before .before .before .before .before in
     let a = p .args in
-    let e = over-front (replicate 64 0) (nameIn (a .text .now) (a .name)) (a .name .len) (name-length (a .text .now) (a .name) (p .pre)) in
-    let w = c .written-len .ensures ∙ ap (λ (l : List ℕ). length (written (take (a .name .len - 0) (drop 0 l)))) (q .put-name .ensures .0) ∙ ap (λ (l : List ℕ). length (written l)) e in
-    (w, omega (arith, w, written-most (a .text .now) (a .name) (p .pre)))
+    let name = nameIn (a .text .now) (a .name) in
+    let none : length name ≡ 0 = omega (arith, name-length (a .text .now) (a .name) (p .pre)) in
+    (sym (ap length (written-ascii name (ascii q) ∙ written-none name none)), omega arith)
+
+returns-2 : tie.Need-returns-2
+returns-2 c =
+    let q = c .before in
+    let p = q .before .before .before .before .before .before in
+    let a = p .args in
+    let name = nameIn (a .text .now) (a .name) in
+    let n = name-length (a .text .now) (a .name) (p .pre) in
+    (sym (ap length (written-ascii name (ascii q)) ∙ written-some name (λ e. omega (arith, e, n)) ∙ n), p .pre .short)
 
 pub written-size-spec : {M : Type 1} → statement M
 written-size-spec =
     tie.close
     (tie.spec
-    (search needs) (search needs)
-    put-name-requires
     (search needs) (search needs) (search needs) (search needs)
-    returns)
+    (search needs) (search needs) (search needs)
+    is-ascii-requires
+    returns
+    returns-2
+    (λ c κs. c .before .before .before .before .before .before .pre)
+    (λ c. c .decoded-size .ensures))
