@@ -5,6 +5,7 @@ ghost use Prim.Native.Nat.{_≤_};
 ghost use lib.ListN.{length};
 ghost use Rattle.object.specs.Read.{declaredMaps, jobIn};
 ghost use Rattle.object.specs.Kept.{Kept};
+ghost use Rattle.named.specs.There.{Lent};
 ghost use Rattle.object.specs.Object as whole;
 ghost use Rattle.job.specs.Answer.{answer, fitted, outputAfter};
 ghost use Rattle.maker.specs.Made.{outcomeOf, outcome};
@@ -26,8 +27,8 @@ struct Weighed {
 }
 
 // The sizes of the sections whose contents are not counted in the tables themselves.
-fn weigh(text: &[u8], object: BpfObject) -> Weighed
-    requires { ⌜ Kept (now text) object ⌝ }
+fn weigh<'a>(text: &[u8], object: BpfObject, ats: &'a [u16], lens: &'a [u8]) -> Weighed
+    requires { ⌜ Lent (now text) object (now ats) (now lens) ⌝ }
     ensures { λ r. ⌜ SizesOf (jobIn (now (text .entry)) object) (r .sizes) ⌝ }
     ensures { λ r. ⌜ Small (r .sizes) ⌝ }
     ensures { λ r. ⌜ r .types ≡ length (addTypes (btfTypes (declaredMaps (now (text .entry)) object)) start .types) ⌝ }
@@ -36,9 +37,9 @@ fn weigh(text: &[u8], object: BpfObject) -> Weighed
     let count = object.map_count;
     let declared = object.license;
     let license = contents::license_len(declared);
-    let btf = spans::btf_size(text, maps, &object.map_at, &object.map_len, count);
+    let btf = spans::btf_size(text, maps, ats, lens, count);
     let room = spans::maps_size(maps, count);
-    let strtab = strtab::strtab_size(text, object);
+    let strtab = strtab::strtab_size(text, object, ats, lens);
     Weighed {
         sizes: Sizes {
             license,
@@ -51,16 +52,18 @@ fn weigh(text: &[u8], object: BpfObject) -> Weighed
 }
 
 // The whole object, into a part of exactly its length. The headers of its sections are measured before.
-fn write(
+fn write<'a>(
     out: &mut [u8],
     text: &[u8],
     rows: &[u8],
     object: BpfObject,
+    ats: &'a [u16],
+    lens: &'a [u8],
     measured: Measured,
     sizes: Sizes,
     types: usize,
 )
-    requires { ⌜ Kept (now text) object ⌝ }
+    requires { ⌜ Lent (now text) object (now ats) (now lens) ⌝ }
     requires { ⌜ SizesOf (jobIn (now text) object) sizes ⌝ }
     requires { ⌜ Small sizes ⌝ }
     requires { ⌜ types ≡ length (addTypes (btfTypes (declaredMaps (now text) object)) start .types) ⌝ }
@@ -76,7 +79,7 @@ fn write(
         count as u16,
         (count - 1) as u16,
     );
-    let end = sections::write_sections(out, text, object, sizes, measured.names, types);
+    let end = sections::write_sections(out, text, object, ats, lens, sizes, measured.names, types);
     let at = measured.at as usize;
     octets::clear(&mut out[end..at]);
     let behind = at + 64 * count;
@@ -95,7 +98,7 @@ fn build(text: &[u8], out: &mut [u8], object: BpfObject) -> Making
     ensures { λ r. ⌜ outcomeOf r ≡ outcome (fitted (length (now (out .entry))) (whole.object (jobIn (now (text .entry)) object))) ⌝ }
     ensures { λ _. ⌜ now (out .exit) ≡ outputAfter (fitted (length (now (out .entry))) (whole.object (jobIn (now (text .entry)) object))) (now (out .entry)) ⌝ }
 {
-    let weighed = weigh(text, object);
+    let weighed = weigh(text, object, &object.map_at, &object.map_len);
     let sizes = weighed.sizes;
     let mut table = [0u8; 4544];
     let measured = measure::measure(text, &mut table, object, sizes);
@@ -109,6 +112,8 @@ fn build(text: &[u8], out: &mut [u8], object: BpfObject) -> Making
         text,
         &table[0..headers],
         object,
+        &object.map_at,
+        &object.map_len,
         measured,
         sizes,
         weighed.types,

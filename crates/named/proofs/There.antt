@@ -14,7 +14,7 @@ use Rattle.object.specs.declared.BpfObject.{BpfObject}
 use Rattle.object.specs.Tables.{noMap, noProgram}
 use Rattle.object.specs.Read.{mapIn, mapsIn, programIn, programsIn}
 use Rattle.object.specs.Kept.{Kept, ProgramKept, AllKept}
-use Rattle.named.specs.There.{MapsThere}
+use Rattle.named.specs.There.{MapsThere, Lent}
 
 -- ---- maps
 
@@ -53,6 +53,10 @@ pub kept-maps : (text : List ℕ) (o : BpfObject) → Kept text o → MapsThere 
 kept-maps text o k =
     let s = k .sound in
     record { few = s .few-maps; decls-long = s .maps; ats-long = s .ats; lens-long = s .lens; named = k .maps }
+
+-- the same of the places that are lent
+pub lent-maps : {text : List ℕ} {o : BpfObject} {ats lens : List ℕ} → Lent text o ats lens → MapsThere text (o .maps) ats lens (o .«map_count»)
+lent-maps {text} {o} l = rw (l .ats-are, l .lens-are) (kept-maps text o (l .kept))
 
 -- ---- programs
 

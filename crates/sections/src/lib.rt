@@ -16,7 +16,7 @@ ghost use Rattle.measure.specs.Measured.{SizesOf, Small};
 ghost use Rattle.sections.specs.Pieces.{bare, programPieces, mapPieces, tablePieces, allPieces, Fits, AllSlotted};
 ghost use Rattle.btf.specs.Btf.{btfBytes, addTypes, start};
 ghost use Rattle.btf.specs.Maps.{btfTypes};
-ghost use Rattle.named.specs.There.{MapsThere};
+ghost use Rattle.named.specs.There.{MapsThere, Lent};
 ghost use Rattle.members.specs.Section.{theMaps};
 use ast::MapDecl;
 use measure::Sizes;
@@ -102,15 +102,17 @@ fn lay_zeros(out: &mut [u8], end: usize, size: usize) -> usize
 }
 
 // `.symtab`, behind what ends at `end`; where it ends.
-fn lay_symtab(
+fn lay_symtab<'a>(
     out: &mut [u8],
     end: usize,
     text: &[u8],
     object: BpfObject,
+    ats: &'a [u16],
+    lens: &'a [u8],
     license: usize,
     size: usize,
 ) -> usize
-    requires { ⌜ Kept (now text) object ⌝ }
+    requires { ⌜ Lent (now text) object (now ats) (now lens) ⌝ }
     requires { ⌜ (license ≡ length (licenceIn (now text) (object .license))) × (license ≤ 64) ⌝ }
     requires { ⌜ Fits (now out) end size (bare 8 (symtabOf (jobIn (now text) object))) ⌝ }
     ensures { λ _. ⌜ now (out .exit) ≡ over (now (out .entry)) end (laid end (bare 8 (symtabOf (jobIn (now (text .entry)) object)) ∷ [])) ⌝ }
@@ -118,20 +120,28 @@ fn lay_symtab(
 {
     let at = pad(out, end, 8);
     let behind = at + size;
-    symbols::put_symtab(&mut out[at..behind], text, object, license);
+    symbols::put_symtab(&mut out[at..behind], text, object, ats, lens, license);
     behind
 }
 
 // `.strtab`, behind what ends at `end`; where it ends.
-fn lay_strtab(out: &mut [u8], end: usize, text: &[u8], object: BpfObject, size: usize) -> usize
-    requires { ⌜ Kept (now text) object ⌝ }
+fn lay_strtab<'a>(
+    out: &mut [u8],
+    end: usize,
+    text: &[u8],
+    object: BpfObject,
+    ats: &'a [u16],
+    lens: &'a [u8],
+    size: usize,
+) -> usize
+    requires { ⌜ Lent (now text) object (now ats) (now lens) ⌝ }
     requires { ⌜ Fits (now out) end size (bare 1 (strtabOf (jobIn (now text) object))) ⌝ }
     ensures { λ _. ⌜ now (out .exit) ≡ over (now (out .entry)) end (laid end (bare 1 (strtabOf (jobIn (now (text .entry)) object)) ∷ [])) ⌝ }
     ensures { λ r. ⌜ r ≡ endOf end (bare 1 (strtabOf (jobIn (now (text .entry)) object)) ∷ []) ⌝ }
 {
     let at = pad(out, end, 1);
     let behind = at + size;
-    strtab::put_strtab(&mut out[at..behind], text, object);
+    strtab::put_strtab(&mut out[at..behind], text, object, ats, lens);
     behind
 }
 
@@ -202,15 +212,17 @@ fn lay_btf<'a>(
 }
 
 // `.maps` and `.BTF`, where there are maps, behind what ends at `end`; where they end.
-fn write_maps(
+fn write_maps<'a>(
     out: &mut [u8],
     end: usize,
     text: &[u8],
     object: BpfObject,
+    ats: &'a [u16],
+    lens: &'a [u8],
     types: usize,
     sizes: Sizes,
 ) -> usize
-    requires { ⌜ Kept (now text) object ⌝ }
+    requires { ⌜ Lent (now text) object (now ats) (now lens) ⌝ }
     requires { ⌜ types ≡ length (addTypes (btfTypes (declaredMaps (now text) object)) start .types) ⌝ }
     requires { ⌜ SizesOf (jobIn (now text) object) sizes ⌝ }
     requires { ⌜ (endOf end (mapPieces (object .«map_count») (declaredMaps (now text) object)) ≤ length (now out)) × (length (now out) ≤ 200000000) ⌝ }
@@ -223,29 +235,21 @@ fn write_maps(
         return end;
     }
     let middle = lay_zeros(out, end, sizes.maps);
-    lay_btf(
-        out,
-        middle,
-        text,
-        maps,
-        &object.map_at,
-        &object.map_len,
-        count,
-        types,
-        sizes.btf,
-    )
+    lay_btf(out, middle, text, maps, ats, lens, count, types, sizes.btf)
 }
 
 // The three tables, behind what ends at `end`; where they end. The sections' names take `names` bytes.
-fn write_tables(
+fn write_tables<'a>(
     out: &mut [u8],
     end: usize,
     text: &[u8],
     object: BpfObject,
+    ats: &'a [u16],
+    lens: &'a [u8],
     sizes: Sizes,
     names: usize,
 ) -> usize
-    requires { ⌜ Kept (now text) object ⌝ }
+    requires { ⌜ Lent (now text) object (now ats) (now lens) ⌝ }
     requires { ⌜ SizesOf (jobIn (now text) object) sizes ⌝ }
     requires { ⌜ Small sizes ⌝ }
     requires { ⌜ names ≡ length (shstrtabOf (jobIn (now text) object)) ⌝ }
@@ -254,21 +258,23 @@ fn write_tables(
     ensures { λ r. ⌜ r ≡ endOf end (tablePieces (jobIn (now (text .entry)) object)) ⌝ }
 {
     let symbols = 24 * (2 + object.map_count + object.program_count);
-    let first = lay_symtab(out, end, text, object, sizes.license, symbols);
-    let second = lay_strtab(out, first, text, object, sizes.strtab);
+    let first = lay_symtab(out, end, text, object, ats, lens, sizes.license, symbols);
+    let second = lay_strtab(out, first, text, object, ats, lens, sizes.strtab);
     lay_shstrtab(out, second, text, object, names)
 }
 
 // All sections, from the end of the file header on; where they end. Their names take `names` bytes, and the types in `.BTF` take `types`.
-pub fn write_sections(
+pub fn write_sections<'a>(
     out: &mut [u8],
     text: &[u8],
     object: BpfObject,
+    ats: &'a [u16],
+    lens: &'a [u8],
     sizes: Sizes,
     names: usize,
     types: usize,
 ) -> usize
-    requires { ⌜ Kept (now text) object ⌝ }
+    requires { ⌜ Lent (now text) object (now ats) (now lens) ⌝ }
     requires { ⌜ SizesOf (jobIn (now text) object) sizes ⌝ }
     requires { ⌜ Small sizes ⌝ }
     requires { ⌜ names ≡ length (shstrtabOf (jobIn (now text) object)) ⌝ }
@@ -281,7 +287,7 @@ pub fn write_sections(
     let slots = object.slots;
     let declared = object.license;
     let licensed = lay_license(out, 64, text, declared, sizes.license + 1);
-    let mapped = write_maps(out, licensed, text, object, types, sizes);
+    let mapped = write_maps(out, licensed, text, object, ats, lens, types, sizes);
     let programmed = write_programs(out, mapped, text, slots, programs, object.program_count);
-    write_tables(out, programmed, text, object, sizes, names)
+    write_tables(out, programmed, text, object, ats, lens, sizes, names)
 }

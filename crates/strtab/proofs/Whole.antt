@@ -26,6 +26,7 @@ use Rattle.object.specs.Kept.{Kept, AllKept}
 use Rattle.object.specs.Object.{past, mapSymbols, programSymbols, firstProgram, symbols}
 use Rattle.object.proofs.Read.{count-maps}
 use Rattle.object.proofs.Programs.{kept-more}
+use Rattle.named.specs.There.{Lent}
 use Rattle.strtab.specs.Rows.{rowAt, rowSize, mapRow, behind, firstOf, programRow, namesIn, programNames, symtabOf, strtabOf, NamesThere, ProgramsThere}
 use Rattle.strtab.proofs.Rows.{row-is, row-length, symbols-maps, length-programs}
 
@@ -218,3 +219,15 @@ module _ (text : List ℕ) (o : BpfObject) (k : Kept text o) where
         n,
         m,
       )
+
+-- the places of the names that are lent are those of the tables
+pub lent-names : {text : List ℕ} {o : BpfObject} {ats lens : List ℕ} → Lent text o ats lens → NamesThere text ats lens (o .«map_count»)
+lent-names {text} {o} l = rw (l .ats-are, l .lens-are) (names-there text o (l .kept))
+
+pub lent-same : {text : List ℕ} {o : BpfObject} {ats lens : List ℕ} (n : ℕ) → Lent text o ats lens
+    → namesIn text (take n ats) (take n lens) ≡ namesIn text (take n (o .«map_at»)) (take n (o .«map_len»))
+lent-same n l = rw (l .ats-are, l .lens-are)
+
+pub lent-row : {text : List ℕ} {o : BpfObject} {ats lens : List ℕ} → Lent text o ats lens
+    → mapRow text (o .maps) ats lens (o .«map_count») ≡ mapRow text (o .maps) (o .«map_at») (o .«map_len») (o .«map_count»)
+lent-row l = rw (l .ats-are, l .lens-are)

@@ -5,7 +5,7 @@ ghost use lib.ListN.{length, take};
 ghost use Rattle.octets.specs.Over.{over};
 ghost use Rattle.elf.specs.Row.{joined, sizeOf};
 ghost use Rattle.object.specs.Read.{jobIn};
-ghost use Rattle.object.specs.Kept.{Kept};
+ghost use Rattle.named.specs.There.{Lent};
 ghost use Rattle.strtab.specs.Rows.{behind, namesIn, programNames, strtabOf, NamesThere, ProgramsThere};
 use ast::Name;
 use object::BpfObject;
@@ -93,27 +93,33 @@ fn program_names_size(text: &[u8], programs: [Program; 32], count: usize) -> usi
     n
 }
 
-// How long `.strtab` is.
-pub fn strtab_size(text: &[u8], object: BpfObject) -> usize
-    requires { ⌜ Kept (now text) object ⌝ }
+// How long `.strtab` is. The places of the maps' names are lent beside the tables: a table that lends them itself would be copied whole.
+pub fn strtab_size<'a>(text: &[u8], object: BpfObject, ats: &'a [u16], lens: &'a [u8]) -> usize
+    requires { ⌜ Lent (now text) object (now ats) (now lens) ⌝ }
     ensures { λ r. ⌜ r ≡ length (strtabOf (jobIn (now (text .entry)) object)) ⌝ }
     ensures { λ r. ⌜ r ≤ 10000 ⌝ }
 {
     let programs = object.programs;
-    let maps_size = map_names_size(text, &object.map_at, &object.map_len, object.map_count);
+    let maps_size = map_names_size(text, ats, lens, object.map_count);
     let programs_size = program_names_size(text, programs, object.program_count);
     10 + maps_size + programs_size
 }
 
 // `.strtab`, into a part of exactly its length.
-pub fn put_strtab(out: &mut [u8], text: &[u8], object: BpfObject)
-    requires { ⌜ Kept (now text) object ⌝ }
+pub fn put_strtab<'a>(
+    out: &mut [u8],
+    text: &[u8],
+    object: BpfObject,
+    ats: &'a [u16],
+    lens: &'a [u8],
+)
+    requires { ⌜ Lent (now text) object (now ats) (now lens) ⌝ }
     requires { ⌜ length (now out) ≡ length (strtabOf (jobIn (now text) object)) ⌝ }
     ensures { λ _. ⌜ now (out .exit) ≡ strtabOf (jobIn (now (text .entry)) object) ⌝ }
 {
     let programs = object.programs;
     octets::clear(&mut out[0..2]);
     named::put_string_at(out, 2, b"LICENSE");
-    let at = put_map_names(out, text, &object.map_at, &object.map_len, object.map_count);
+    let at = put_map_names(out, text, ats, lens, object.map_count);
     put_program_names(out, at, text, programs, object.program_count);
 }

@@ -3,9 +3,8 @@ ghost use mathlib.Core.Path.{_≡_};
 ghost use Prim.Native.Nat.{_+_, _*_, _≤_};
 ghost use lib.ListN.{length, take};
 ghost use Rattle.octets.specs.Over.{over};
-ghost use Rattle.named.specs.There.{MapsThere};
+ghost use Rattle.named.specs.There.{MapsThere, Lent};
 ghost use Rattle.object.specs.Read.{licenceIn, jobIn};
-ghost use Rattle.object.specs.Kept.{Kept};
 ghost use Rattle.strtab.specs.Rows.{rowAt, rowSize, mapRow, behind, firstOf, programRow, symtabOf, ProgramsThere};
 use ast::MapDecl;
 use ast::Name;
@@ -114,8 +113,15 @@ pub fn first_program(maps: usize) -> usize
 }
 
 // `.symtab`, into a part of exactly its length, where the licence has `license` bytes.
-pub fn put_symtab(out: &mut [u8], text: &[u8], object: BpfObject, license: usize)
-    requires { ⌜ Kept (now text) object ⌝ }
+pub fn put_symtab<'a>(
+    out: &mut [u8],
+    text: &[u8],
+    object: BpfObject,
+    ats: &'a [u16],
+    lens: &'a [u8],
+    license: usize,
+)
+    requires { ⌜ Lent (now text) object (now ats) (now lens) ⌝ }
     requires { ⌜ license ≡ length (licenceIn (now text) (object .license)) ⌝ }
     requires { ⌜ license ≤ 64 ⌝ }
     requires { ⌜ length (now out) ≡ 24 * (2 + object .«map_count» + object .«program_count») ⌝ }
@@ -133,7 +139,7 @@ pub fn put_symtab(out: &mut [u8], text: &[u8], object: BpfObject, license: usize
         size: (license + 1) as u64,
     };
     symbol.put(&mut out[24..48]);
-    let names = put_map_symbols(out, text, maps, &object.map_at, &object.map_len, count);
+    let names = put_map_symbols(out, text, maps, ats, lens, count);
     let first = first_program(count);
     put_program_symbols(
         out,

@@ -16,32 +16,32 @@ use Rattle.maker.proofs.build.Statement.{statement}
 use Rattle.maker.proofs.build.Tie as tie
 
 weigh-requires : tie.Need-weigh-requires
-weigh-requires c κs = c .before .before .pre
+weigh-requires c κs = record { kept = c .before .before .before .before .before .before .before .pre; ats-are = refl; lens-are = refl }
 
 measure-requires : tie.Need-measure-requires
 measure-requires c κs =
     let w = c .before .before in
-    let p = w .before .before .before in
+    let p = w .before .before .before .before .before .before .before .before in
     (p .pre, (w .weigh .ensures .0, (w .weigh .ensures .1 .0, refl)))
 
 -- the measured numbers are those of the definitions
-is : (c : tie.After-measure) → let a = c .before .before .before .before .before .before .args in c .measure .result ≡ measuredOf (jobIn (a .text .now) (a .object))
+is : (c : tie.After-measure) → let a = c .before .before .before .before .before .before .before .before .before .before .before .args in c .measure .result ≡ measuredOf (jobIn (a .text .now) (a .t3))
 is c = c .measure .ensures .1 .0
 
-long : (c : tie.After-measure) → let a = c .before .before .before .before .before .before .args in c .measure .result .len ≡ length (whole.object (jobIn (a .text .now) (a .object)))
+long : (c : tie.After-measure) → let a = c .before .before .before .before .before .before .before .before .before .before .before .args in c .measure .result .len ≡ length (whole.object (jobIn (a .text .now) (a .t3)))
 long c = ap (λ (m : Measured). m .len) (is c)
 
 few : (c : tie.After-measure) → c .measure .result .count ≤ 71
 few c =
-    let p = c .before .before .before .before .before .before in
+    let p = c .before .before .before .before .before .before .before .before .before .before .before in
     let a = p .args in
-    omega (arith, count-is (a .text .now) (a .object) (p .pre) (c .measure .result) (is c), few-sections (a .text .now) (a .object) (p .pre))
+    omega (arith, count-is (a .text .now) (a .t3) (p .pre) (c .measure .result) (is c), few-sections (a .text .now) (a .t3) (p .pre))
 
 returns : tie.Need-returns
 returns c =
     let m = c .before .before in
-    let a = m .before .before .before .before .before .before .args in
-    too-short (a .out .now) (whole.object (jobIn (a .text .now) (a .object))) (m .measure .result .len) (long m) (omega arith)
+    let a = m .before .before .before .before .before .before .before .before .before .before .before .args in
+    too-short (a .out .now) (whole.object (jobIn (a .text .now) (a .t3))) (m .measure .result .len) (long m) (omega arith)
 
 mul-headers : tie.Need-mul-headers
 mul-headers c = omega (arith, few (c .before .before .before))
@@ -51,22 +51,22 @@ part-write-end-2 c = omega (arith, few (c .before .before .before .before .befor
 
 write-requires : tie.Need-write-requires
 write-requires c κs =
-    let m = c .before .before .before .before .before .before in
+    let m = c .before .before .before .before .before .before .before .before .before .before .before in
     let w = m .before .before .before in
-    let p = w .before .before .before in
+    let p = w .before .before .before .before .before .before .before .before in
     let a = p .args in
     let n = m .measure .result .len in
     let k : n - 0 ≡ n = omega arith in
-    let size = headers-long (a .text .now) (a .object) (p .pre) (m .measure .result) (is m) in
-    let part = mid-len 0 n (a .out .now) (omega arith) ∙ k in
-    (p .pre, (w .weigh .ensures .0, (w .weigh .ensures .1 .0, (w .weigh .ensures .1 .1, (is m, (table-front _ _ (headersBytes (rowsOf (jobIn (a .text .now) (a .object)))) (64 * m .measure .result .count) (m .measure .ensures .0) (sym size), (part ∙ long m, omega (arith, part, m .measure .ensures .1 .1))))))))
+    let size = headers-long (a .text .now) (a .t3) (p .pre) (m .measure .result) (is m) in
+    let part = mid-len 0 n (a .out .now) (omega (arith, c .before .before .before .before .before .before .before .before .before .if1 .left)) ∙ k in
+    (record { kept = p .pre; ats-are = refl; lens-are = refl }, (w .weigh .ensures .0, (w .weigh .ensures .1 .0, (w .weigh .ensures .1 .1, (is m, (table-front _ _ (headersBytes (rowsOf (jobIn (a .text .now) (a .t3)))) (64 * m .measure .result .count) (m .measure .ensures .0) (sym size), (part ∙ long m, omega (arith, part, m .measure .ensures .1 .1))))))))
 
 returns-2 : tie.Need-returns-2
 returns-2 c =
     let u = c .before .before in
-    let m = u .before .before .before .before .before .before .before in
-    let a = m .before .before .before .before .before .before .args in
-    fits (a .out .now) (whole.object (jobIn (a .text .now) (a .object))) _ (m .measure .result .len) (long m) (omega arith) (u .write .ensures)
+    let m = u .before .before .before .before .before .before .before .before .before .before .before .before in
+    let a = m .before .before .before .before .before .before .before .before .before .before .before .args in
+    fits (a .out .now) (whole.object (jobIn (a .text .now) (a .t3))) _ (m .measure .result .len) (long m) (omega (arith, u .before .before .before .before .before .before .before .before .before .before .if1 .left)) (u .write .ensures)
 
 pub build-spec : {M : Type 1} → statement M
 build-spec =

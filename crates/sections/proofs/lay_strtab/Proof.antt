@@ -11,24 +11,24 @@ use Rattle.sections.proofs.lay_strtab.Statement.{statement}
 use Rattle.sections.proofs.lay_strtab.Tie as tie
 
 pad-requires : tie.Need-pad-requires
-pad-requires c κs = let p = c .before .before .before in (one, fits-pad (p .pre .1))
+pad-requires c κs = let p = c .before .before .before .before .before in (one, fits-pad (p .pre .1))
 
 add-behind : tie.Need-add-behind
 add-behind c =
     let q = c .before .before in
-    let p = q .before .before .before .before in
+    let p = q .before .before .before .before .before .before in
     omega (arith, fits-add (p .pre .1) (q .pad .ensures .1), p .pre .1 .short)
 
 part-end : tie.Need-part-put-strtab-end
 part-end c =
     let q = c .before .before in
-    let p = q .before .before .before .before in
+    let p = q .before .before .before .before .before .before in
     omega (arith, fits-add (p .pre .1) (q .pad .ensures .1))
 
 put-strtab-requires : tie.Need-put-strtab-requires
 put-strtab-requires c κs =
     let q = c .before .before .before in
-    let p = q .before .before .before .before in
+    let p = q .before .before .before .before .before .before in
     let a = p .args in
     let part = fits-part (p .pre .1) _ (q .pad .ensures .1) (q .pad .ensures .0) in
     (p .pre .0, part)
@@ -37,7 +37,7 @@ returns : tie.Need-returns
 returns c =
     let u = c .before .before in
     let q = u .before .before .before .before in
-    let p = q .before .before .before .before in
+    let p = q .before .before .before .before .before .before in
     (fits-lay (p .pre .1) _ (q .pad .ensures .1) (q .pad .ensures .0) _ (u .put-strtab .ensures), fits-after (p .pre .1) (q .pad .ensures .1))
 
 pub lay-strtab-spec : {M : Type 1} → statement M

@@ -21,61 +21,67 @@ use Rattle.sections.proofs.write_maps.Tie as tie
 
 returns : tie.Need-returns
 returns c =
-    let a = c .before .before .before .before .args in
-    let e = no-maps (a .t4 .«map_count») (declaredMaps (a .text .now) (a .t4)) (omega arith) in
+    let a = c .before .before .before .before .before .before .args in
+    let e = no-maps (a .object .«map_count») (declaredMaps (a .text .now) (a .object)) (omega arith) in
     (sym (ap (λ (ss : List Section). over (a .out .now) (a .end) (laid (a .end) ss)) e ∙ over-nothing (a .out .now) (a .end)), sym (ap (endOf (a .end)) e))
 
 -- before `.maps`, where there are maps
 begun : (c : tie.Else1) →
-    let a = c .before .before .before .before .args in
-    let ms = declaredMaps (a .text .now) (a .t4) in
+    let a = c .before .before .before .before .before .before .args in
+    let ms = declaredMaps (a .text .now) (a .object) in
     let all = bare 8 (zeros (mapTypes 6 0 ms .size)) ∷ bare 4 (btfBytes (btfTypes ms)) ∷ [] in
-    (mapPieces (a .t4 .«map_count») ms ≡ all) × Turn (a .out .now) (a .end) all (a .out .now) (a .end) all
+    (mapPieces (a .object .«map_count») ms ≡ all) × Turn (a .out .now) (a .end) all (a .out .now) (a .end) all
 begun c =
-    let p = c .before .before .before .before in
+    let p = c .before .before .before .before .before .before in
     let a = p .args in
-    let ms = declaredMaps (a .text .now) (a .t4) in
+    let ms = declaredMaps (a .text .now) (a .object) in
     let all = bare 8 (zeros (mapTypes 6 0 ms .size)) ∷ bare 4 (btfBytes (btfTypes ms)) ∷ [] in
-    let e = some-maps (a .t4 .«map_count») ms (omega arith) in
+    let e = some-maps (a .object .«map_count») ms (omega arith) in
     let room : endOf (a .end) all ≤ length (a .out .now) = subst (λ (ss : List Section). endOf (a .end) ss ≤ length (a .out .now)) e (p .pre .1 .1 .1 .0) in
     (e, turn-start (a .out .now) (a .end) all (omega arith, (omega arith, tt)) room)
 
 lay-zeros-requires : tie.Need-lay-zeros-requires
 lay-zeros-requires c κs =
     let q = c .before in
-    let p = q .before .before .before .before in
+    let p = q .before .before .before .before .before .before in
     let a = p .args in
-    let n = mapTypes 6 0 (declaredMaps (a .text .now) (a .t4)) .size in
+    let n = mapTypes 6 0 (declaredMaps (a .text .now) (a .object)) .size in
     let f = turn-fits n _ _ (begun q .1) eight (sym (length-replicate {A = ℕ} n 0)) (p .pre .1 .1 .1 .1) in
     subst (λ (k : ℕ). Fits (a .out .now) (a .end) k (bare 8 (zeros k))) (p .pre .1 .1 .0 .maps) f
 
 -- behind `.maps`
 middle : (c : tie.After-lay-zeros) →
-    let a = c .before .before .before .before .before .before .args in
-    let ms = declaredMaps (a .text .now) (a .t4) in
+    let a = c .before .before .before .before .before .before .before .before .args in
+    let ms = declaredMaps (a .text .now) (a .object) in
     Turn (a .out .now) (a .end) (bare 8 (zeros (mapTypes 6 0 ms .size)) ∷ bare 4 (btfBytes (btfTypes ms)) ∷ []) (c .lay-zeros .last .0) (c .lay-zeros .result) (bare 4 (btfBytes (btfTypes ms)) ∷ [])
 middle c =
     let q = c .before .before in
-    let p = q .before .before .before .before in
+    let p = q .before .before .before .before .before .before in
     let a = p .args in
-    let ms = declaredMaps (a .text .now) (a .t4) in
+    let ms = declaredMaps (a .text .now) (a .object) in
     let z = zeros-piece (a .out .now) _ (a .end) (c .lay-zeros .result) (a .sizes .maps) (mapTypes 6 0 ms .size) (p .pre .1 .1 .0 .maps) (c .lay-zeros .ensures .0) (c .lay-zeros .ensures .1) in
     turn-on _ _ _ _ (begun q .1) (z .0) (z .1)
 
 lay-btf-requires : tie.Need-lay-btf-requires
 lay-btf-requires c κs =
-    let u = c .before .before .before .before .before .before .before .before in
-    let p = u .before .before .before .before .before .before in
+    let u = c .before .before .before in
+    let p = u .before .before .before .before .before .before .before .before in
     let a = p .args in
-    (kept-maps (a .text .now) (a .t4) (p .pre .0), (p .pre .1 .0, turn-fits (a .sizes .btf) _ _ (middle u) four (sym (p .pre .1 .1 .0 .btf)) (p .pre .1 .1 .1 .1)))
+    let l = p .pre .0 in
+    rw (l .ats-are, l .lens-are)
+    (kept-maps (a .text .now) (a .object) (l .kept), (p .pre .1 .0, turn-fits (a .sizes .btf) _ _ (middle u) four (sym (p .pre .1 .1 .0 .btf)) (p .pre .1 .1 .1 .1)))
 
 returns-2 : tie.Need-returns-2
 returns-2 c =
     let v = c .before .before in
-    let u = v .before .before .before .before .before .before .before .before .before in
+    let u = v .before .before .before .before in
     let q = u .before .before in
-    let a = q .before .before .before .before .args in
-    let d = turn-done (turn-on _ _ _ _ (middle u) (v .lay-btf .ensures .0) (v .lay-btf .ensures .1)) in
+    let p = q .before .before .before .before .before .before in
+    let a = p .args in
+    let l = p .pre .0 in
+    let bytes = rw (l .ats-are, l .lens-are) at (v .lay-btf .ensures .0) in
+    let end = rw (l .ats-are, l .lens-are) at (v .lay-btf .ensures .1) in
+    let d = turn-done (turn-on _ _ _ _ (middle u) bytes end) in
     (d .0 ∙ ap (λ (ss : List Section). over (a .out .now) (a .end) (laid (a .end) ss)) (sym (begun q .0)), d .1 ∙ ap (endOf (a .end)) (sym (begun q .0)))
 
 pub write-maps-spec : {M : Type 1} → statement M

@@ -22,40 +22,40 @@ begun p =
     turn-start (a .out .now) (a .end) (tablePieces (jobIn (a .text .now) (a .object))) (omega arith, (omega arith, (omega arith, tt))) (p .pre .1 .1 .1 .1 .0)
 
 add-symbols : tie.Need-add-symbols
-add-symbols c = let p = c .before .before .before in omega (arith, p .pre .0 .sound)
+add-symbols c = let p = c .before .before .before .before .before in omega (arith, p .pre .0 .kept .sound)
 
 add-symbols-2 : tie.Need-add-symbols-2
-add-symbols-2 c = let p = c .before .before .before .before in omega (arith, p .pre .0 .sound)
+add-symbols-2 c = let p = c .before .before .before .before .before .before in omega (arith, p .pre .0 .kept .sound)
 
 mul-symbols : tie.Need-mul-symbols
-mul-symbols c = let p = c .before .before .before .before in omega (arith, p .pre .0 .sound)
+mul-symbols c = let p = c .before .before .before .before .before .before in omega (arith, p .pre .0 .kept .sound)
 
 lay-symtab-requires : tie.Need-lay-symtab-requires
 lay-symtab-requires c κs =
-    let p = c .before .before .before .before .before in
+    let p = c .before .before .before .before .before .before .before in
     let a = p .args in
-    (p .pre .0, ((sym (p .pre .1 .0 .license), p .pre .1 .1 .0 .license), turn-fits _ _ _ (begun p) eight (sym (symtab-long (a .text .now) (a .object) (p .pre .0))) (p .pre .1 .1 .1 .1 .1)))
+    (p .pre .0, ((sym (p .pre .1 .0 .license), p .pre .1 .1 .0 .license), turn-fits _ _ _ (begun p) eight (sym (symtab-long (a .text .now) (a .object) (p .pre .0 .kept))) (p .pre .1 .1 .1 .1 .1)))
 
 -- behind `.symtab`, and behind `.strtab`
-first : (c : tie.After-lay-symtab) → let a = c .before .before .before .before .before .before .args in let j = jobIn (a .text .now) (a .object) in
+first : (c : tie.After-lay-symtab) → let a = c .before .before .before .before .before .before .before .before .args in let j = jobIn (a .text .now) (a .object) in
     Turn (a .out .now) (a .end) (tablePieces j) (c .lay-symtab .last .0) (c .lay-symtab .result) (bare 1 (strtabOf j) ∷ bare 1 (shstrtabOf j) ∷ [])
-first c = turn-on _ _ _ _ (begun (c .before .before .before .before .before .before)) (c .lay-symtab .ensures .0) (c .lay-symtab .ensures .1)
+first c = turn-on _ _ _ _ (begun (c .before .before .before .before .before .before .before .before)) (c .lay-symtab .ensures .0) (c .lay-symtab .ensures .1)
 
 lay-strtab-requires : tie.Need-lay-strtab-requires
 lay-strtab-requires c κs =
     let u = c .before .before .before in
-    let p = u .before .before .before .before .before .before in
+    let p = u .before .before .before .before .before .before .before .before in
     (p .pre .0, turn-fits (p .args .sizes .strtab) _ _ (first u) one (sym (p .pre .1 .0 .strtab)) (p .pre .1 .1 .1 .1 .1))
 
-second : (c : tie.After-lay-strtab) → let a = c .before .before .before .before .before .before .before .before .before .before .args in let j = jobIn (a .text .now) (a .object) in
+second : (c : tie.After-lay-strtab) → let a = c .before .before .before .before .before .before .before .before .before .before .before .before .args in let j = jobIn (a .text .now) (a .object) in
     Turn (a .out .now) (a .end) (tablePieces j) (c .lay-strtab .last .0) (c .lay-strtab .result) (bare 1 (shstrtabOf j) ∷ [])
 second c = turn-on _ _ _ _ (first (c .before .before .before .before)) (c .lay-strtab .ensures .0) (c .lay-strtab .ensures .1)
 
 lay-shstrtab-requires : tie.Need-lay-shstrtab-requires
 lay-shstrtab-requires c κs =
     let v = c .before .before .before in
-    let p = v .before .before .before .before .before .before .before .before .before .before in
-    (p .pre .0, turn-fits (p .args .names) _ _ (second v) one (p .pre .1 .1 .1 .0) (p .pre .1 .1 .1 .1 .1))
+    let p = v .before .before .before .before .before .before .before .before .before .before .before .before in
+    (p .pre .0 .kept, turn-fits (p .args .names) _ _ (second v) one (p .pre .1 .1 .1 .0) (p .pre .1 .1 .1 .1 .1))
 
 returns : tie.Need-returns
 returns c =

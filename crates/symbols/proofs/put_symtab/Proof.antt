@@ -10,42 +10,42 @@ use Rattle.elf.specs.Elf.{entryBytes}
 use Rattle.elf.specs.Entries.{entryOf}
 use Rattle.elf.specs.declared.Symbol.{Symbol}
 use Rattle.strtab.specs.Rows.{rowAt, programRow, firstOf}
-use Rattle.named.proofs.There.{kept-maps}
-use Rattle.strtab.proofs.Whole.{symtab-long, programs-there, symbols-null, symbols-licence, symbols-mapped, symbols-programmed}
+use Rattle.named.proofs.There.{lent-maps}
+use Rattle.strtab.proofs.Whole.{lent-row, symtab-long, programs-there, symbols-null, symbols-licence, symbols-mapped, symbols-programmed}
 use Rattle.symbols.proofs.put_symtab.Statement.{statement}
 use Rattle.symbols.proofs.put_symtab.Tie as tie
 
 put-map-symbols-requires : tie.Need-put-map-symbols-requires
 put-map-symbols-requires c κs =
-    let u = c .before .before .before .before .before .before .before .before in
-    let p = u .before .before .before .before .before .before .before .before .before .before .before in
+    let u = c .before .before .before in
+    let p = u .before .before .before .before .before .before .before .before .before .before .before .before .before in
     let a = p .args in
-    (kept-maps (a .text .now) (a .t3) (p .pre .0), omega (arith, p .pre .1 .1 .1, c .before .before .before .before .before .before))
+    (lent-maps (p .pre .0), omega (arith, p .pre .1 .1 .1, c .before))
 
 put-program-symbols-requires : tie.Need-put-program-symbols-requires
 put-program-symbols-requires c κs =
     let n = c .before in
     let m = n .before .before .before in
-    let u = m .before .before .before .before .before .before .before .before .before in
-    let p = u .before .before .before .before .before .before .before .before .before .before .before in
+    let u = m .before .before .before .before in
+    let p = u .before .before .before .before .before .before .before .before .before .before .before .before .before in
     let a = p .args in
-    (programs-there (a .text .now) (a .t3) (p .pre .0), (omega (arith, p .pre .1 .1 .1, c .before .before), (omega (arith, m .put-map-symbols .ensures .1 .1, p .pre .0 .sound), n .first-program .ensures .1)))
+    (programs-there (a .text .now) (a .object) (p .pre .0 .kept), (omega (arith, p .pre .1 .1 .1, c .before .before), (omega (arith, m .put-map-symbols .ensures .1 .1, p .pre .0 .kept .sound), n .first-program .ensures .1)))
 
 returns : tie.Need-returns
 returns c =
     let v = c .before .before in
     let n = v .before .before in
     let m = n .before .before .before in
-    let u = m .before .before .before .before .before .before .before .before .before in
+    let u = m .before .before .before .before in
     let w = u .before .before .before .before in
     let q = w .before .before in
-    let p = q .before .before .before .before .before in
+    let p = q .before .before .before .before .before .before .before in
     let a = p .args in
-    let long = p .pre .1 .1 .1 ∙ sym (symtab-long (a .text .now) (a .t3) (p .pre .0)) in
-    let f = symbols-null (a .text .now) (a .t3) (p .pre .0) (a .out .now) _ long (w .put .ensures ∙ ap (λ (s : Symbol). entryBytes (entryOf s)) (q .null .ensures)) in
-    let g = symbols-licence (a .text .now) (a .t3) (p .pre .0) _ _ (a .license) f (p .pre .1 .0) (u .put2 .ensures) in
-    let h = symbols-mapped (a .text .now) (a .t3) (p .pre .0) _ _ g (m .put-map-symbols .ensures .0) in
-    symbols-programmed (a .text .now) (a .t3) (p .pre .0) _ _ _ _ _ h (m .put-map-symbols .ensures .1 .0) (n .first-program .ensures .0) (v .put-program-symbols .ensures)
+    let long = p .pre .1 .1 .1 ∙ sym (symtab-long (a .text .now) (a .object) (p .pre .0 .kept)) in
+    let f = symbols-null (a .text .now) (a .object) (p .pre .0 .kept) (a .out .now) _ long (w .put .ensures ∙ ap (λ (s : Symbol). entryBytes (entryOf s)) (q .null .ensures)) in
+    let g = symbols-licence (a .text .now) (a .object) (p .pre .0 .kept) _ _ (a .license) f (p .pre .1 .0) (u .put2 .ensures) in
+    let h = symbols-mapped (a .text .now) (a .object) (p .pre .0 .kept) _ _ g (rw (lent-row (p .pre .0)) at (m .put-map-symbols .ensures .0)) in
+    symbols-programmed (a .text .now) (a .object) (p .pre .0 .kept) _ _ _ _ _ h (rw (lent-row (p .pre .0)) at (m .put-map-symbols .ensures .1 .0)) (n .first-program .ensures .0) (v .put-program-symbols .ensures)
 
 pub put-symtab-spec : {M : Type 1} → statement M
 put-symtab-spec =
