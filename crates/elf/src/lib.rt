@@ -2,7 +2,7 @@
 ghost use mathlib.Core.Path.{_≡_};
 ghost use mathlib.Core.List.{[], _∷_, _++_};
 ghost use Prim.Native.Nat.{_+_, _<_, _^_};
-ghost use lib.ListN.{length};
+ghost use lib.ListN.{length, take, drop};
 ghost use Rattle.elf.specs.Elf.{alignTo, fileHeader, headerBytes, entryBytes, relBytes};
 ghost use Rattle.elf.specs.Added.{Alignment, added};
 ghost use Rattle.elf.specs.Entries.{nullSection, headerOf, nullSymbol, entryOf};
@@ -177,46 +177,22 @@ pub fn put_rel(out: &mut [u8], offset: u64, symbol: u32)
     octets::put_fields(out, &[8u8, 8], &[offset, ((symbol as u64) << 32) | 1]);
 }
 
-// The file header, for a table of `count` section headers at `table`, and the names' section `names`.
-pub fn put_file_header(out: &mut [u8], table: u64, count: u16, names: u16)
-    requires { ⌜ length (now out) ≡ 64 ⌝ }
-    ensures { λ _. ⌜ now (out .exit) ≡ fileHeader table count names ⌝ }
+// The first 16 bytes of the file header: what says that the file is ELF, for 64 bits, with the lowest byte first. No number is in them.
+fn put_identification(out: &mut [u8])
+    requires { ⌜ length (now out) ≡ 16 ⌝ }
+    ensures { λ _. ⌜ now (out .exit) ≡ take 16 (fileHeader 0 0 0) ⌝ }
 {
-    let widths = [
-        1u8,
-        1,
-        1,
-        1,
-        1,
-        1,
-        1,
-        1,
-        8,
-        2,
-        2,
-        4,
-        8,
-        8,
-        8,
-        4,
-        2,
-        2,
-        2,
-        2,
-        2,
-        2,
-    ];
+    let values = [0x7fu64, 0x45, 0x4c, 0x46, 2, 1, 1, 0, 0];
+    octets::put_fields(out, &[1u8, 1, 1, 1, 1, 1, 1, 1, 8], &values);
+}
+
+// The numbers of the file header, which stand behind its identification.
+fn put_header_numbers(out: &mut [u8], table: u64, count: u16, names: u16)
+    requires { ⌜ length (now out) ≡ 48 ⌝ }
+    ensures { λ _. ⌜ now (out .exit) ≡ drop 16 (fileHeader table count names) ⌝ }
+{
     let values = [
-        0x7fu64,
-        0x45,
-        0x4c,
-        0x46,
-        2,
-        1,
-        1,
-        0,
-        0,
-        1,
+        1u64,
         247,
         1,
         0,
@@ -230,5 +206,14 @@ pub fn put_file_header(out: &mut [u8], table: u64, count: u16, names: u16)
         count as u64,
         names as u64,
     ];
-    octets::put_fields(out, &widths, &values);
+    octets::put_fields(out, &[2u8, 2, 4, 8, 8, 8, 4, 2, 2, 2, 2, 2, 2], &values);
+}
+
+// The file header, for a table of `count` section headers at `table`, and the names' section `names`.
+pub fn put_file_header(out: &mut [u8], table: u64, count: u16, names: u16)
+    requires { ⌜ length (now out) ≡ 64 ⌝ }
+    ensures { λ _. ⌜ now (out .exit) ≡ fileHeader table count names ⌝ }
+{
+    put_identification(&mut out[0..16]);
+    put_header_numbers(&mut out[16..64], table, count, names);
 }
