@@ -124,7 +124,7 @@ pub data Checked : Type 0 where
   accepted : Job → Checked
   faulty : ℕ → ℕ → Checked
 
--- the first faulty line decides; `l` is the number of the next line
+-- the first faulty line decides, and its number, counted from 1, is told with the refusal's
 abbrev pub takeLines : Stage → List Line → Checked
 takeLines s [] = accepted (s .job)
 takeLines s (l ∷ ls) =
