@@ -7,9 +7,9 @@ use Prim.Native.Nat.{ℕ, zero, suc, _+_, _*_, _-_, _%_, _≤_, _<_}
 use native.Mathlib.Omega.{arith}
 use lib.Dec.{leb, eqb, lit≤}
 use lib.ListN.{length, drop}
-use borrow.Author.Tests.{eq-eqb, ne-eqb, eqb-true, eqb-false, leb-true, leb-false}
+use borrow.Author.Tests.{eq-eqb, ne-eqb, eqb-false, leb-true, leb-false}
 use Rattle.octets.specs.Octets.{equal, within}
-use Rattle.octets.proofs.Laws.{read-on, read-done}
+use Rattle.octets.proofs.Laws.{read-on, read-done, equal-swap}
 use Rattle.lines.specs.Hex.{bytesIn}
 use Rattle.utf8.specs.Utf8.{Wait, idle, Next, point, more, bad, allowed, leads, continues, next, put, pointsFrom, points, isText}
 use Rattle.written.specs.Written.{written, unnamed}
@@ -167,17 +167,6 @@ module _ {a b : List ℕ} {i j n : ℕ} (s : Alike a b i j n) where
       go u false e = some-char n (points (drop j b)) (s .b-text) (no-points b j (leb-false (length b) j e)) .0
 
 -- ---- names that are empty or no text
-
--- either name may be the empty one, and one comparison serves both
-pub equal-swap : (a b : List ℕ) → equal a b ≡ equal b a
-equal-swap [] [] = refl
-equal-swap [] (y ∷ b) = refl
-equal-swap (x ∷ a) [] = refl
-equal-swap (x ∷ a) (y ∷ b) = rw (equal-swap a b) (go (eqb x y) refl)
-  where
-    go : (t : Bool) → eqb x y ≡ t → (eqb x y && equal b a) ≡ (eqb y x && equal b a)
-    go true e = let h : x ≡ y = eqb-true x y e in simp (e, eq-eqb y x (sym h))
-    go false e = simp (e, ne-eqb y x (λ h. eqb-false x y e (sym h)))
 
 -- what is no text has no written name, and a text has one that is not empty
 written-none : (bs : List ℕ) → isText bs ≡ false → written bs ≡ []

@@ -1,20 +1,19 @@
 -- The walk over the lines of a program's body: one line more, and why no line of it lacks its end.
-use mathlib.Core.Path.{_≡_, refl, sym, _∙_, ap}
-use mathlib.Core.Bool.{Bool, true, false}
-use mathlib.Core.Option.{Option, none, some}
+use mathlib.Core.Path.{_≡_, sym, _∙_, ap}
+use mathlib.Core.Bool.{true, false≢true}
+use mathlib.Core.Option.{Option, some}
 use mathlib.Core.List.{List, [], _∷_, _++_}
 use mathlib.Core.Logic.{⊎-elim}
 use Prim.Native.Nat.{ℕ, zero, suc, _+_, _-_, _≤_, _<_}
 use native.Mathlib.Numerals.{add-one}
 use native.Mathlib.Omega.{arith}
-use lib.Dec.{eqb}
 use lib.ListN.{length, take, drop, length-take, length-drop, drop-of-length-le}
-use borrow.Author.Tests.{ne-eqb, eqb-false}
+use borrow.Author.Tests.{ne-eqb}
 use Rattle.lines.specs.Lines.{lines, frameBytes}
 use Rattle.lines.specs.Ends.{lineEnd}
-use Rattle.lines.specs.Hex.{there, isHex, isFrame, bytesOf, bytesIn}
+use Rattle.lines.specs.Hex.{isHex, bytesIn}
 use Rattle.lines.specs.declared.LineEnd.the-variants.{Ended, Cut}
-use Rattle.lines.proofs.Laws.{line, cut, line-ended, no-end, no}
+use Rattle.lines.proofs.Laws.{is-there, frame-hex, line, cut, line-ended, no-end}
 use Rattle.frames.specs.Frames.{frameOf}
 use Rattle.object.specs.Read.{frameCode, lineCode, codeOf, body}
 use Rattle.object.specs.Kept.{AllFrames}
@@ -29,19 +28,6 @@ next-taken [] (suc i) n a rest h e = let z : _≡_ {A = ℕ} 0 1 = cc in absurd 
 next-taken (x ∷ xs) i zero a rest h e = absurd (omega arith)
 next-taken (x ∷ xs) zero (suc n) a rest h e = let p : x ≡ a = cc in rw p
 next-taken (x ∷ xs) (suc i) (suc n) a rest h e = next-taken xs i n a rest (omega arith) e
-
--- ---- a line that is a frame
-
-frame-hex : (part : List ℕ) → isFrame part ≡ true → (isHex part ≡ true) × (length part ≡ 0 → ⊥)
-frame-hex part t = go (eqb (length part) 0) refl
-  where
-    go : (b : Bool) → eqb (length part) 0 ≡ b → (isHex part ≡ true) × (length part ≡ 0 → ⊥)
-    go true e = absurd (no (rw e at t))
-    go false e = (rw e at t, eqb-false (length part) 0 e)
-
-is-there : (o : Option (List ℕ)) → there o ≡ true → o ≡ some (bytesOf o)
-is-there none e = absurd (no e)
-is-there (some a) e = refl
 
 -- ---- the walk
 
@@ -80,7 +66,7 @@ module _ (text : List ℕ) (from n i start : ℕ) (few : i < n) (here : drop i (
       (λ k.
       let t = next-taken l i n (cut (drop start text)) [] few (here ∙ k) in
       let f : AllFrames (cut (drop start text) ∷ drop (suc i) (body text from n)) = rw t at frames in
-      no (f .0))
+      false≢true (f .0))
       (λ k.
       let z : length l - i ≡ 0 = sym (length-drop i l) ∙ ap length (here ∙ ap lines k) in
       omega (arith, length-take n l))

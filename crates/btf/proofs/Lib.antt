@@ -1,6 +1,6 @@
 pub mod Laws
 pub mod Types
 pub mod MapTypes
-pub mod Writing
+pub mod Words
 pub mod Builder
 pub mod Single

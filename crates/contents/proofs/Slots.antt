@@ -23,16 +23,12 @@ use Rattle.object.specs.declared.Program.{Program}
 use Rattle.object.specs.declared.BpfObject.{BpfObject}
 use Rattle.object.specs.Object.{mapSymbol, relocationBytes}
 use Rattle.object.specs.Tables.{emptySlot}
-use Rattle.object.specs.Read.{bytesAt, nameIn, licenceIn, entryIn, relocationsIn, declaredMaps}
+use Rattle.object.specs.Read.{bytesAt, licenceIn, entryIn, relocationsIn, declaredMaps}
 use Rattle.object.specs.Kept.{Named, LicenceNamed, ResolvedEntry, Kept}
+use Rattle.object.proofs.Names.{name-length}
 use Rattle.contents.specs.Slots.{licenceLen, slotBytes, slotsBytes, PlacedSlot, AllPlaced, AllResolved}
 
 -- ---- the licence
-
-pub name-length : (text : List ℕ) (n : Name) → Named text n → length (nameIn text n) ≡ n .len
-name-length text n k =
-    let h : 2 * n .len ≤ length (drop (n .at) text) = rw length-drop (omega (arith, k .inside)) in
-    omega (arith, bytes-length (take (2 * n .len) (drop (n .at) text)) (k .hex), length-take-le (2 * n .len) (drop (n .at) text) h)
 
 pub licence-length : (text : List ℕ) (l : License) → LicenceNamed text l → length (licenceIn text l) ≡ licenceLen l
 licence-length text Gpl k = refl

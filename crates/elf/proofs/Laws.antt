@@ -5,18 +5,13 @@ use Prim.Native.Nat.{ℕ, _+_, _-_, _*_, _/_, _%_, _^_, _≤_, _<_}
 use native.Mathlib.Nat.{mod-eq-of-lt, div-lt-iff-lt-mul}
 use lib.Pow.{pow-add, pow-pos}
 use native.Mathlib.Omega.{arith}
-use lib.Dec.{lit≤, lit<}
+use lib.Dec.{lit<}
 use lib.Bits.{bitAnd, bitOr, and-high, or-shifted}
 use lib.ListN.{length, length-append}
 use Rattle.elf.specs.Strings.{addString}
 use Rattle.elf.specs.Elf.{alignTo, nullHeader, nullEntry}
 use Rattle.elf.specs.Entries.{nullSection, headerOf, nullSymbol, entryOf}
 use Rattle.elf.specs.Added.{Alignment, one, four, eight, added}
-
-pub at-most-eight : {a : ℕ} → Alignment a → a ≤ 8
-at-most-eight one = lit≤ tt
-at-most-eight four = lit≤ tt
-at-most-eight eight = lit≤ tt
 
 -- a sum that is cut off below 2^k by a mask is the next multiple of 2^k
 pub cut-off : (j k n : ℕ) → n < 2 ^ (j + k) → bitAnd n (2 ^ (j + k) - 2 ^ k) ≡ n / 2 ^ k * 2 ^ k

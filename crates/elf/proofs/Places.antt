@@ -9,6 +9,7 @@ use lib.ListN.{length, take, drop, length-append, length-replicate}
 use lib.Seq.{drop-at, take-at}
 use Rattle.octets.proofs.Lists.{All}
 use Rattle.elf.specs.Elf.{Section, alignTo, place, after, endOf, padding, laid, headerBytes, nullHeader, sectionHeaders, fileHeader, file}
+use Rattle.elf.specs.Added.{Alignment, one, four, eight}
 use Rattle.elf.proofs.Rows.{FitHeader, FitSection, headersFor, headerRow, headers-row, count-headers, length-row}
 
 -- ---- places
@@ -18,6 +19,12 @@ align-up a n h = omega (arith, mod-lt (n + (a - 1)) h, div-add-mod' (n + (a - 1)
 
 pub align-near : (a n : ℕ) → 0 < a → alignTo a n < n + a
 align-near a n h = omega (arith, div-add-mod' (n + (a - 1)) a)
+
+-- the alignments are positive and at most 8
+pub align-small : {a : ℕ} → Alignment a → (0 < a) × (a ≤ 8)
+align-small one = (omega arith, omega arith)
+align-small four = (omega arith, omega arith)
+align-small eight = (omega arith, omega arith)
 
 abbrev pub Aligned : Section → Type 0
 Aligned s = 0 < s .align

@@ -7,12 +7,12 @@ use lib.ListN.{length, take, drop, getD}
 use borrow.Author.Tests.{eq-eqb, ne-eqb}
 use Rattle.octets.specs.Octets.{ascii}
 use Rattle.octets.specs.Over.{over}
+use Rattle.octets.proofs.Going.{Going, go-as, go-on, go-room, go-done}
 use Rattle.elf.specs.Row.{joined}
 use Rattle.elf.proofs.Joined.{length-string}
 use Rattle.object.specs.declared.Program.{Program}
 use Rattle.object.specs.Tables.{noProgram}
 use Rattle.object.specs.Read.{nameIn}
-use Rattle.named.proofs.Going.{Going, go-as, go-on, go-room, go-done}
 use Rattle.strtab.specs.Rows.{ProgramsThere}
 use Rattle.strtab.proofs.Rows.{program-from, program-end}
 use Rattle.headers.specs.Names.{mapSectionNames, relName, programSectionNames}

@@ -1,19 +1,18 @@
 -- One line of the walk: what the definition does with it, by what the code read.
 use mathlib.Core.Path.{_≡_, refl, sym, _∙_, ap}
-use mathlib.Core.Bool.{Bool, true, false, cond}
+use mathlib.Core.Bool.{true, false, false≢true}
 use mathlib.Core.Option.{Option, none, some}
 use mathlib.Core.List.{List, [], _∷_}
 use Prim.Native.Nat.{ℕ, suc, _+_, _-_, _≤_, _<_}
 use native.Mathlib.Omega.{arith}
-use lib.Dec.{eqb}
 use lib.ListN.{length, take, drop, length-drop}
 use lib.Seq.{length-take-le}
-use borrow.Author.Tests.{eq-eqb, ne-eqb, eqb-false}
+use borrow.Author.Tests.{ne-eqb}
 use Rattle.lines.specs.Lines.{Line, lines, unhex, frameBytes}
 use Rattle.lines.specs.Ends.{lineEnd}
-use Rattle.lines.specs.Hex.{there, isHex, isFrame, bytesOf, bytesIn}
+use Rattle.lines.specs.Hex.{there, isFrame}
 use Rattle.lines.specs.declared.LineEnd.the-variants.{Ended, Cut}
-use Rattle.lines.proofs.Laws.{line, cut, line-ended, line-cut, no}
+use Rattle.lines.proofs.Laws.{is-there, frame-hex, line, cut, line-ended, line-cut}
 use Rattle.lines.proofs.Bytes.{bytes-length}
 use Rattle.refusals.specs.Checked.{Stage, Checked, Step, takeLine, takeLines, takeBytes, went, stopped, faulty}
 use Rattle.refusals.specs.Refusal.{numberOf}
@@ -26,11 +25,7 @@ use Rattle.job.specs.Walked.{Next, Saying}
 
 pub not-there : {A : Type 0} (o : Option A) → there o ≡ false → o ≡ none
 not-there none e = refl
-not-there (some a) e = absurd (no (sym e))
-
-pub is-there : (o : Option (List ℕ)) → there o ≡ true → o ≡ some (bytesOf o)
-is-there none e = absurd (no e)
-is-there (some a) e = refl
+not-there (some a) e = absurd (false≢true (sym e))
 
 -- ---- a line that is none
 
@@ -46,13 +41,6 @@ bad-line text at end e f s =
     ap (takeLines s) (line-ended text at end e .2) ∙ refused-line s (line (take (end - at) (drop at text))) (lines (drop (end + 1) text)) (not-there _ f)
 
 -- ---- a line that is one
-
-frame-hex : (part : List ℕ) → isFrame part ≡ true → (isHex part ≡ true) × (length part ≡ 0 → ⊥)
-frame-hex part t = go (eqb (length part) 0) refl
-  where
-    go : (b : Bool) → eqb (length part) 0 ≡ b → (isHex part ≡ true) × (length part ≡ 0 → ⊥)
-    go true e = absurd (no (rw e at t))
-    go false e = (rw e at t, eqb-false (length part) 0 e)
 
 pub good-line : (text : List ℕ) (at end : ℕ) → length text ≤ 65535 → lineEnd text at ≡ Ended end → isFrame (take (end - at) (drop at text)) ≡ true → Next text at end
 good-line text at end few e f =

@@ -9,7 +9,7 @@ use native.Mathlib.Numerals.{add-one}
 use native.Mathlib.Omega.{arith}
 use lib.Dec.{eqb}
 use lib.ListN.{length, take, drop, getD, set, replicate, length-append, length-set}
-use lib.Seq.{take-suc-set, getD-set-same, getD-set-other}
+use lib.Seq.{take-suc-set, getD-set-same, getD-set-other, length-take-le}
 use borrow.Author.Tests.{lt-ltb, eq-eqb, ne-eqb, eqb-true, eqb-false}
 use Rattle.lines.specs.Lines.{Line, lines, frameBytes}
 use Rattle.lines.specs.Hex.{there}
@@ -26,7 +26,7 @@ use Rattle.object.specs.declared.BpfObject.{BpfObject}
 use Rattle.object.specs.Tables.{noProgram, emptySlot, emptyObject, Sound, withMap, withProgram, withLicense}
 use Rattle.object.specs.Read.{nameIn, mapIn, mapsIn, entryIn, relocationsIn, frameCode, lineCode, codeOf, body, programIn, programsIn, declaredMaps, jobIn}
 use Rattle.object.specs.Kept.{Named, ResolvedEntry, AllFrames, ProgramKept, AllKept, Kept}
-use Rattle.object.proofs.Read.{maps-set, count-maps, took}
+use Rattle.object.proofs.Read.{maps-set, count-maps}
 use Rattle.object.proofs.Programs.{take-next, drop-next, part-more, code-snoc, frames-snoc, relocations-snoc, programs-snoc, programs-length, programs-kept, kept-more, kept-snoc}
 use Rattle.refusals.specs.Checked.{Stage, takeBytes, takeLines, empty, went, advance, declare, counts, onLast, withCode, withRelocation}
 use Rattle.judge.specs.Judged.{Framed, lineBytes, mapFrameOf}
@@ -103,7 +103,7 @@ maps-counted text o s =
 pub programs-counted : (text : List ℕ) (o : BpfObject) (opened : ℕ) (p : Program) (n : ℕ) → Sound o → opened ≤ 1
     → length (stageIn text o opened p n .job .programs) ≡ o .«program_count» + opened
 programs-counted text o opened p n s h =
-    let t : length (take (o .«program_count») (o .programs)) ≡ o .«program_count» = took (o .«program_count») (o .programs) (omega (arith, s .programs, s .few-programs)) in
+    let t : length (take (o .«program_count») (o .programs)) ≡ o .«program_count» = length-take-le (o .«program_count») (o .programs) (omega (arith, s .programs, s .few-programs)) in
     rw (length-append (programsIn text (o .slots) (take (o .«program_count») (o .programs))) (openIn text (o .slots) opened p), programs-length, open-length text (o .slots) opened p h, t)
 
 -- ---- a line taken

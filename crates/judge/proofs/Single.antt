@@ -33,6 +33,7 @@ use Rattle.lookup.specs.Names.{Names, foundOf}
 use Rattle.judge.specs.Judged.{Agrees, Held, Judged, lineBytes, declarationFrame}
 use Rattle.refusals.specs.declared.Refusal.{Refusal}
 use Rattle.refusals.specs.declared.Refusal.the-variants.{TooLong, BadLine, BadFrame, Misplaced, BadText, OverLimit, UnknownMap, NoRoom}
+use Rattle.refusals.proofs.Within.{last-count}
 use Rattle.lookup.specs.declared.Found.{Found}
 use Rattle.lookup.specs.declared.Found.the-variants.{At, Nothing}
 use Rattle.judge.specs.declared.Counts.{Counts}
@@ -92,11 +93,6 @@ module _ (f : Program → Program) where
   on-last d (p ∷ []) h = refl
   on-last d (p ∷ q ∷ []) h = refl
   on-last d (p ∷ q ∷ r ∷ ps) h = on-last d (q ∷ r ∷ ps) (omega arith)
-
-  on-length : (ps : List Program) → length (onLast f ps) ≡ length ps
-  on-length [] = refl
-  on-length (p ∷ []) = refl
-  on-length (p ∷ q ∷ ps) = ap suc (on-length (q ∷ ps))
 
 -- behind all of a list nothing is left
 gone {ℓ} : {A : Type ℓ} (xs : List A) (n : ℕ) → length xs ≡ n → drop n xs ≡ []
@@ -194,7 +190,7 @@ module _ (bs : List ℕ) (s : Stage) where
   undo-code =
       rw (
         gone (s .job .maps) _ refl,
-        gone (onLast (withCode (frameCode (frameOf bs))) (s .job .programs)) _ (on-length (withCode (frameCode (frameOf bs))) (s .job .programs)),
+        gone (onLast (withCode (frameCode (frameOf bs))) (s .job .programs)) _ (last-count (withCode (frameCode (frameOf bs))) (s .job .programs)),
         none-more,
         eq-eqb (length (s .job .licence)) (length (s .job .licence)) refl,
       )
@@ -204,7 +200,7 @@ module _ (bs : List ℕ) (s : Stage) where
       let r : Relocation = record { offset = offset; map = name } in
       rw (
         gone (s .job .maps) _ refl,
-        gone (onLast (withRelocation r) (s .job .programs)) _ (on-length (withRelocation r) (s .job .programs)),
+        gone (onLast (withRelocation r) (s .job .programs)) _ (last-count (withRelocation r) (s .job .programs)),
         one-more,
         on-last (withRelocation r) noProgram (s .job .programs) h,
         last-snoc noRelocation (lastOr noProgram (s .job .programs) .relocations) r,

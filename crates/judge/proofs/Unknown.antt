@@ -9,8 +9,9 @@ use Prim.Native.Nat.{ℕ, suc, _+_}
 use native.Mathlib.Omega.{arith}
 use lib.ListN.{length}
 use lib.Dec.{ltb, leb, eqb}
-use borrow.Author.Tests.{ltb-false, le-ltb, leb-false, lt-leb, eqb-true, eqb-false, eq-eqb, ne-eqb, not-true, not-false}
+use borrow.Author.Tests.{ltb-false, le-ltb, leb-false, lt-leb, eqb-true, eqb-false, ne-eqb, not-true, not-false}
 use Rattle.octets.specs.Octets.{equal, ascii}
+use Rattle.octets.proofs.Laws.{equal-self}
 use Rattle.octets.proofs.Lists.{All}
 use Rattle.octets.proofs.Tests.{or-false-both, and-true-both}
 use Rattle.utf8.specs.Utf8.{isText}
@@ -22,10 +23,6 @@ use Rattle.judge.specs.Unknown.{stageAfter, Unnamed, Asks, Unknown}
 use Rattle.judge.proofs.Judge.{stops, declared-none}
 
 -- ---- no map of a name
-
-equal-self : (a : List ℕ) → equal a a ≡ true
-equal-self [] = refl
-equal-self (x ∷ a) = rw (eq-eqb x x refl) (equal-self a)
 
 equal-same : (a b : List ℕ) → equal a b ≡ true → a ≡ b
 equal-same [] [] e = refl

@@ -1,6 +1,6 @@
 -- The bytes of hexadecimal text by their places: how many there are, byte `i`, and the bytes of a part.
 use mathlib.Core.Path.{_≡_, refl, sym, _∙_, ap}
-use mathlib.Core.Bool.{Bool, true, false, _&&_}
+use mathlib.Core.Bool.{Bool, true, false, _&&_, false≢true}
 use mathlib.Core.Option.{Option, none, some}
 use mathlib.Core.List.{List, [], _∷_}
 use Prim.Native.Nat.{ℕ, zero, suc, _+_, _*_, _≤_, _<_}
@@ -8,9 +8,10 @@ use native.Mathlib.Omega.{arith}
 use native.Mathlib.Nat.{add-zero}
 use lib.ListN.{length, take, drop, getD, length-drop}
 use lib.Seq.{getD-drop, getD-take, length-take-le}
+use Rattle.octets.proofs.Tests.{and-true-both}
 use Rattle.lines.specs.Lines.{digit, pair, unhex}
 use Rattle.lines.specs.Hex.{there, isHex, bytesIn, bytesOf}
-use Rattle.lines.proofs.Laws.{there-pair, both, no, byte-on}
+use Rattle.lines.proofs.Laws.{there-pair, byte-on}
 
 -- the number of a digit
 abbrev pub numberOf : Option ℕ → ℕ
@@ -28,17 +29,17 @@ pub record Front (c d : ℕ) (cs : List ℕ) : Type 0 where
   pub bytes : bytesIn (c ∷ d ∷ cs) ≡ byteOf c d ∷ bytesIn cs
 
 paired : (x y : Option ℕ) (z : Option (List ℕ)) → there (pair x y z) ≡ true → bytesOf (pair x y z) ≡ (numberOf x * 16 + numberOf y) ∷ bytesOf z
-paired none y z t = absurd (no t)
-paired (some x) none z t = absurd (no t)
-paired (some x) (some y) none t = absurd (no t)
+paired none y z t = absurd (false≢true t)
+paired (some x) none z t = absurd (false≢true t)
+paired (some x) (some y) none t = absurd (false≢true t)
 paired (some x) (some y) (some z) t = refl
 
 -- two characters at the front
 pub front : (c d : ℕ) (cs : List ℕ) → isHex (c ∷ d ∷ cs) ≡ true → Front c d cs
 front c d cs t =
     let three = sym (there-pair (digit c) (digit d) (unhex cs)) ∙ t in
-    let two = both (there (digit c) && there (digit d)) (there (unhex cs)) three in
-    let one = both (there (digit c)) (there (digit d)) (two .0) in
+    let two = and-true-both (there (digit c) && there (digit d)) (there (unhex cs)) three in
+    let one = and-true-both (there (digit c)) (there (digit d)) (two .0) in
     record { high = one .0; low = one .1; rest = two .1; bytes = paired (digit c) (digit d) (unhex cs) t }
 
 -- and put before others
@@ -51,7 +52,7 @@ doubled i = omega arith
 -- there are half as many bytes as characters
 pub bytes-length : (s : List ℕ) → isHex s ≡ true → length s ≡ 2 * length (bytesIn s)
 bytes-length [] t = refl
-bytes-length (c ∷ []) t = absurd (no t)
+bytes-length (c ∷ []) t = absurd (false≢true t)
 bytes-length (c ∷ d ∷ cs) t =
     let f = front c d cs t in
     let l = bytes-length cs (f .rest) in
@@ -61,14 +62,14 @@ bytes-length (c ∷ d ∷ cs) t =
 pub hex-drop : (s : List ℕ) (i : ℕ) → isHex s ≡ true → isHex (drop (2 * i) s) ≡ true
 hex-drop s zero t = t
 hex-drop [] (suc i) t = rw (doubled i)
-hex-drop (c ∷ []) (suc i) t = absurd (no t)
+hex-drop (c ∷ []) (suc i) t = absurd (false≢true t)
 hex-drop (c ∷ d ∷ cs) (suc i) t =
     rw (doubled i) (hex-drop cs i (front c d cs t .rest))
 
 pub bytes-drop : (s : List ℕ) (i : ℕ) → isHex s ≡ true → bytesIn (drop (2 * i) s) ≡ drop i (bytesIn s)
 bytes-drop s zero t = refl
 bytes-drop [] (suc i) t = rw (doubled i)
-bytes-drop (c ∷ []) (suc i) t = absurd (no t)
+bytes-drop (c ∷ []) (suc i) t = absurd (false≢true t)
 bytes-drop (c ∷ d ∷ cs) (suc i) t =
     let f = front c d cs t in
     rw (doubled i, f .bytes) (bytes-drop cs i (f .rest))
@@ -77,7 +78,7 @@ bytes-drop (c ∷ d ∷ cs) (suc i) t =
 pub hex-take : (s : List ℕ) (n : ℕ) → isHex s ≡ true → isHex (take (2 * n) s) ≡ true
 hex-take s zero t = refl
 hex-take [] (suc n) t = rw (doubled n)
-hex-take (c ∷ []) (suc n) t = absurd (no t)
+hex-take (c ∷ []) (suc n) t = absurd (false≢true t)
 hex-take (c ∷ d ∷ cs) (suc n) t =
     let f = front c d cs t in
     rw (doubled n) (hex-cons c d (take (2 * n) cs) (f .high) (f .low) (hex-take cs n (f .rest)))
@@ -85,7 +86,7 @@ hex-take (c ∷ d ∷ cs) (suc n) t =
 pub bytes-take : (s : List ℕ) (n : ℕ) → isHex s ≡ true → bytesIn (take (2 * n) s) ≡ take n (bytesIn s)
 bytes-take s zero t = refl
 bytes-take [] (suc n) t = rw (doubled n)
-bytes-take (c ∷ []) (suc n) t = absurd (no t)
+bytes-take (c ∷ []) (suc n) t = absurd (false≢true t)
 bytes-take (c ∷ d ∷ cs) (suc n) t =
     let f = front c d cs t in
     let g = front c d (take (2 * n) cs) (hex-cons c d (take (2 * n) cs) (f .high) (f .low) (hex-take cs n (f .rest))) in
@@ -94,7 +95,7 @@ bytes-take (c ∷ d ∷ cs) (suc n) t =
 -- each character is a digit
 pub digit-at : (s : List ℕ) → isHex s ≡ true → (k : ℕ) → k < length s → there (digit (getD s k 0)) ≡ true
 digit-at [] t k h = absurd (omega arith)
-digit-at (c ∷ []) t k h = absurd (no t)
+digit-at (c ∷ []) t k h = absurd (false≢true t)
 digit-at (c ∷ d ∷ cs) t zero h = front c d cs t .high
 digit-at (c ∷ d ∷ cs) t (suc zero) h = front c d cs t .low
 digit-at (c ∷ d ∷ cs) t (suc (suc k)) h = digit-at cs (front c d cs t .rest) k (omega arith)

@@ -1,6 +1,6 @@
 -- What the proofs of this crate share, and what callers learn of a line from its end.
 use mathlib.Core.Path.{_≡_, refl, sym, _∙_, ap}
-use mathlib.Core.Bool.{Bool, true, false, cond, _&&_}
+use mathlib.Core.Bool.{Bool, true, false, cond, _&&_, false≢true}
 use mathlib.Core.Option.{Option, none, some}
 use mathlib.Core.List.{List, [], _∷_}
 use mathlib.Core.Logic.{_⊎_, inl, inr, ⊎-elim}
@@ -11,12 +11,13 @@ use lib.Dec.{eqb, leb}
 use Rattle.octets.specs.Octets.{within}
 use lib.ListN.{length, take, drop, getD, length-drop}
 use lib.Seq.{drop-drop}
-use borrow.Author.Tests.{eq-eqb, ne-eqb, leb-true}
+use borrow.Author.Tests.{eq-eqb, ne-eqb, eqb-false, leb-true}
 use Rattle.lines.specs.Lines.{Line, lines, before, digit, pair, unhex}
 use Rattle.octets.proofs.Laws.{read-on, read-done}
+use Rattle.octets.proofs.Tests.{and-true-both}
 use Rattle.lines.specs.declared.LineEnd.the-variants.{Ended, Cut}
 use Rattle.lines.specs.Ends.{endOf, lineEnd}
-use Rattle.lines.specs.Hex.{there, bytesOf}
+use Rattle.lines.specs.Hex.{there, bytesOf, isHex, isFrame}
 
 -- ---- the end of a line
 
@@ -42,6 +43,19 @@ there-pair none y z = refl
 there-pair (some a) none z = refl
 there-pair (some a) (some b) none = refl
 there-pair (some a) (some b) (some z) = refl
+
+-- what may be there or not
+pub is-there : (o : Option (List ℕ)) → there o ≡ true → o ≡ some (bytesOf o)
+is-there none e = absurd (false≢true e)
+is-there (some a) e = refl
+
+-- the text of a frame is hexadecimal, and not empty
+pub frame-hex : (part : List ℕ) → isFrame part ≡ true → (isHex part ≡ true) × (length part ≡ 0 → ⊥)
+frame-hex part t = go (eqb (length part) 0) refl
+  where
+    go : (b : Bool) → eqb (length part) 0 ≡ b → (isHex part ≡ true) × (length part ≡ 0 → ⊥)
+    go true e = absurd (false≢true (rw e at t))
+    go false e = (rw e at t, eqb-false (length part) 0 e)
 
 -- two characters more
 pub hex-on : (s : List ℕ) (i : ℕ) → i + 1 < length s
@@ -114,15 +128,8 @@ line-cut s at h e =
 
 -- ---- digits
 
-pub no : false ≡ true → ⊥
-no e = let z : _≡_ {A = ℕ} 0 1 = cc in omega arith
-
-pub both : (a b : Bool) → (a && b) ≡ true → (a ≡ true) × (b ≡ true)
-both true b e = (refl, e)
-both false b e = absurd (no e)
-
 pub within-true : (a z n : ℕ) → within a z n ≡ true → (a ≤ n) × (n ≤ z)
-within-true a z n e = let r = both (leb a n) (leb n z) e in (leb-true a n (r .0), leb-true n z (r .1))
+within-true a z n e = let r = and-true-both (leb a n) (leb n z) e in (leb-true a n (r .0), leb-true n z (r .1))
 
 pub digits : (c : ℕ) → there (digit c) ≡ true → ((48 ≤ c) × (c ≤ 57)) ⊎ ((97 ≤ c) × (c ≤ 102))
 digits c e = go (within 48 57 c) refl (within 97 102 c) refl
@@ -130,17 +137,17 @@ digits c e = go (within 48 57 c) refl (within 97 102 c) refl
     go : (b : Bool) → within 48 57 c ≡ b → (d : Bool) → within 97 102 c ≡ d → ((48 ≤ c) × (c ≤ 57)) ⊎ ((97 ≤ c) × (c ≤ 102))
     go true p d q = inl (within-true 48 57 c p)
     go false p true q = inr (within-true 97 102 c q)
-    go false p false q = absurd (no (sym (simp (p, q)) ∙ e))
+    go false p false q = absurd (false≢true (sym (simp (p, q)) ∙ e))
 
 -- what two digits give, before the bytes of the rest
 pub pair-on : (x y : ℕ) (a b : Option ℕ) (z : Option (List ℕ)) → some x ≡ a → some y ≡ b → there z ≡ true
     → bytesOf (pair a b z) ≡ (x * 16 + y) ∷ bytesOf z
-pair-on x y a b none p q t = absurd (no t)
+pair-on x y a b none p q t = absurd (false≢true t)
 pair-on x y a b (some z) p q t = rw (← p, ← q)
 
 module _ (s : List ℕ) (at : ℕ) (h : at + 1 < length s) (t : there (unhex (drop at s)) ≡ true) where
   later : there (unhex (drop (at + 2) s)) ≡ true
-  later = both (there (digit (getD s at 0)) && there (digit (getD s (at + 1) 0))) (there (unhex (drop (at + 2) s))) (sym (hex-on s at h) ∙ t) .1
+  later = and-true-both (there (digit (getD s at 0)) && there (digit (getD s (at + 1) 0))) (there (unhex (drop (at + 2) s))) (sym (hex-on s at h) ∙ t) .1
 
   pub byte-on : (x y : ℕ) → some x ≡ digit (getD s at 0) → some y ≡ digit (getD s (at + 1) 0)
       → bytesOf (unhex (drop at s)) ≡ (x * 16 + y) ∷ bytesOf (unhex (drop (at + 2) s))

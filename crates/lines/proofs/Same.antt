@@ -1,6 +1,6 @@
 -- Equal bytes have equal text, since only lower-case digits are hexadecimal.
 use mathlib.Core.Path.{_≡_, refl, sym, _∙_, ap}
-use mathlib.Core.Bool.{Bool, true, false, _&&_, and-assoc}
+use mathlib.Core.Bool.{Bool, true, false, _&&_, and-assoc, false≢true}
 use mathlib.Core.List.{List, [], _∷_}
 use mathlib.Core.Logic.{⊎-elim}
 use Prim.Native.Nat.{ℕ, _+_, _-_, _*_, _/_, _≤_, _<_}
@@ -10,7 +10,7 @@ use borrow.Author.Tests.{le-leb, lt-leb, eq-eqb, ne-eqb, eqb-true, eqb-false}
 use Rattle.octets.specs.Octets.{equal}
 use Rattle.lines.specs.Lines.{digit}
 use Rattle.lines.specs.Hex.{there, isHex, bytesIn}
-use Rattle.lines.proofs.Laws.{no, digits}
+use Rattle.lines.proofs.Laws.{digits}
 use Rattle.lines.proofs.Bytes.{numberOf, byteOf, front}
 
 -- what the number of a digit says of the digit: 48 below it, or 87
@@ -51,11 +51,11 @@ byte-same c d c′ d′ p q p′ q′ =
 
 pub equal-hex : (a b : List ℕ) → isHex a ≡ true → isHex b ≡ true → equal (bytesIn a) (bytesIn b) ≡ equal a b
 equal-hex [] [] s t = refl
-equal-hex [] (c ∷ []) s t = absurd (no t)
+equal-hex [] (c ∷ []) s t = absurd (false≢true t)
 equal-hex [] (c ∷ d ∷ cs) s t = rw (front c d cs t .bytes)
-equal-hex (c ∷ []) b s t = absurd (no s)
+equal-hex (c ∷ []) b s t = absurd (false≢true s)
 equal-hex (c ∷ d ∷ cs) [] s t = rw (front c d cs s .bytes)
-equal-hex (c ∷ d ∷ cs) (c′ ∷ []) s t = absurd (no t)
+equal-hex (c ∷ d ∷ cs) (c′ ∷ []) s t = absurd (false≢true t)
 equal-hex (c ∷ d ∷ cs) (c′ ∷ d′ ∷ cs′) s t =
     let f = front c d cs s in
     let g = front c′ d′ cs′ t in

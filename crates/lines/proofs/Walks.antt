@@ -9,6 +9,7 @@ use lib.Dec.{eqb}
 use lib.ListN.{length, take, drop, getD}
 use borrow.Author.Tests.{eqb-false}
 use Rattle.octets.proofs.Laws.{read-on, read-done}
+use Rattle.octets.proofs.Tests.{or-false-both}
 use Rattle.octets.proofs.Gather.{all-on, one-on}
 use Rattle.lines.specs.Lines.{digit, unhex}
 use Rattle.lines.specs.Ends.{holdsEnd, lineEnd}
@@ -56,16 +57,12 @@ end-found s i found n h e =
 pub ends-done : (s : List ℕ) (i found : ℕ) → length s ≤ i → (not (eqb found 0) || holdsEnd (drop i s)) ≡ not (eqb found 0)
 ends-done s i found h = ap (λ (l : List ℕ). not (eqb found 0) || holdsEnd l) (read-done s i h) ∙ or-false (not (eqb found 0))
 
-no-or : (a b : Bool) → (a || b) ≡ false → (a ≡ false) × (b ≡ false)
-no-or true b e = let z : _≡_ {A = ℕ} 0 1 = cc in absurd (omega arith)
-no-or false b e = (refl, e)
-
 -- a line's end is behind a block that holds none
 pub block-on : (s : List ℕ) (n i : ℕ) → i + n ≤ length s → holdsEnd (take n (drop i s)) ≡ false → lineEnd s i ≡ lineEnd s (i + n)
 block-on s zero i h e = let z : i ≡ i + 0 = omega arith in ap (lineEnd s) z
 block-on s (suc n) i h e =
     let k : i < length s = omega arith in
     let f : (eqb (getD s i 0) 10 || holdsEnd (take n (drop (i + 1) s))) ≡ false = sym (ap (λ (l : List ℕ). holdsEnd (take (suc n) l)) (read-on s i k)) ∙ e in
-    let g = no-or (eqb (getD s i 0) 10) (holdsEnd (take n (drop (i + 1) s))) f in
+    let g = or-false-both (eqb (getD s i 0) 10) (holdsEnd (take n (drop (i + 1) s))) f in
     let m : i + 1 + n ≡ i + suc n = omega arith in
     end-on s i k (eqb-false (getD s i 0) 10 (g .0)) ∙ block-on s n (i + 1) (omega arith) (g .1) ∙ ap (lineEnd s) m

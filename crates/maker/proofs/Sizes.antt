@@ -3,12 +3,11 @@ use mathlib.Core.Path.{_≡_, refl, sym, _∙_, ap}
 use mathlib.Core.List.{List, [], _∷_, _++_, map, map-append, append-nil, append-assoc}
 use Prim.Native.Nat.{ℕ, suc, _+_, _-_, _*_, _≤_, _<_}
 use native.Mathlib.Omega.{arith}
-use lib.ListN.{length, take, drop, length-append, length-replicate}
+use lib.ListN.{length, take, length-append, length-replicate}
 use lib.Seq.{length-take-le}
 use borrow.Rule.Slice.PartMut.{putMid}
 use Rattle.octets.specs.Octets.{zeros}
 use Rattle.octets.specs.Over.{over}
-use Rattle.octets.proofs.Laws.{over-taken}
 use Rattle.octets.proofs.Filling.{Filling, fill-start, fill-as, fill-on, fill-done, over-part}
 use Rattle.octets.proofs.Lists.{All}
 use Rattle.ast.specs.Job.{Job}
@@ -148,9 +147,3 @@ module _ (text : List ℕ) (o : BpfObject) (k : Kept text o) where
     headers-filled out l f q =
         fill-done (fill-on headers [] (putMid (m .at) (m .at + 64 * m .count - m .at) out l) (m .at + 64 * m .count) f
         (over-part out (m .at) (m .at + 64 * m .count) l headers (ap (λ (x : ℕ). m .at + x) headers-long) q) (ap (λ (x : ℕ). m .at + x) (sym headers-long)))
-
--- what was written over the front of a table is its front
-pub table-front : (d l t : List ℕ) (n : ℕ) → l ≡ over d 0 t → n ≡ length t → take (n - 0) (drop 0 l) ≡ t
-table-front d l t n e h =
-    let k : n - 0 ≡ 0 + length t = omega (arith, h) in
-    rw (k, e) (over-taken d 0 t (omega arith))

@@ -15,7 +15,6 @@ use Rattle.octets.proofs.Filling.{over-part, over-two}
 use Rattle.elf.specs.Row.{sizeOf}
 use Rattle.elf.specs.Elf.{Section, place, after, endOf, headerBytes, headerFor}
 use Rattle.elf.specs.Entries.{headerOf, nullSection}
-use Rattle.elf.specs.Added.{Alignment, one, four, eight}
 use Rattle.elf.specs.declared.Section as code
 use Rattle.elf.proofs.Places.{align-near}
 use Rattle.object.specs.declared.Program.{Program}
@@ -98,11 +97,6 @@ rel-low {n} {m} relocs symtab number name l most short =
 
 pub low-more : {n k : ℕ} {m : Measuring} → Low n m → n ≤ k → Low k m
 low-more l h = record { few = omega (arith, l .few); near = l .near; short = l .short }
-
-pub align-small : {a : ℕ} → Alignment a → (0 < a) × (a ≤ 8)
-align-small one = (omega arith, omega arith)
-align-small four = (omega arith, omega arith)
-align-small eight = (omega arith, omega arith)
 
 -- before the programs' sections
 pub low-begun : Low 1 begun

@@ -28,7 +28,7 @@ use Rattle.object.specs.Read.{bytesAt, programIn, programsIn, relocationsIn, jo
 use Rattle.object.specs.Kept.{Kept, ProgramKept, AllKept}
 use Rattle.object.specs.Object.{plain, licenseSection, mapSections, relSections, past, programSections, pastAll, firstProgram, symbols, declaredSections, symbolSection, tableSection, object}
 use Rattle.object.proofs.Counts.{symtab-number, count-symbols}
-use Rattle.named.proofs.Names.{name-length}
+use Rattle.object.proofs.Names.{name-length}
 use Rattle.strtab.specs.Rows.{behind, firstOf, strtabOf, symtabOf}
 use Rattle.headers.specs.Names.{sectionNames, shstrtabOf}
 use Rattle.strtab.proofs.Whole.{first-of, behind-program, programs-there, count-declared, symtab-long}

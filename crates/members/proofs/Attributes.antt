@@ -6,7 +6,7 @@ use Prim.Native.Nat.{ℕ, _+_, _≤_}
 use native.Mathlib.Omega.{arith}
 use lib.ListN.{length}
 use Rattle.octets.specs.Over.{over}
-use Rattle.named.proofs.Going.{over-nothing}
+use Rattle.octets.proofs.Going.{over-nothing}
 use Rattle.ast.specs.declared.«Type».{«Type» as MemberType}
 use Rattle.ast.specs.declared.TypeAttr.{TypeAttr}
 use Rattle.ast.specs.declared.TypeAttr.the-variants as type

@@ -7,7 +7,7 @@ use lib.ListN.{length}
 use Rattle.octets.specs.Over.{over}
 use Rattle.octets.proofs.Laws.{over-length}
 use Rattle.octets.proofs.Filling.{over-two}
-use Rattle.named.proofs.Going.{Going, go-start, go-as, go-room, go-on, go-done, over-nothing}
+use Rattle.octets.proofs.Going.{Going, go-start, go-as, go-room, go-on, go-done, over-nothing}
 use Rattle.ast.specs.declared.«Type».{«Type» as MemberType}
 use Rattle.ast.specs.declared.MapDecl.{MapDecl}
 use Rattle.ast.specs.declared.TypeAttr.{TypeAttr}

@@ -6,7 +6,7 @@ use Prim.Native.Nat.{ℕ, _+_, _^_, _≤_, _<_}
 use native.Mathlib.Omega.{arith}
 use lib.ListN.{length}
 use Rattle.octets.specs.Over.{over}
-use Rattle.named.proofs.Going.{Going, go-start, go-as, go-room, go-on, go-done}
+use Rattle.octets.proofs.Going.{Going, go-start, go-as, go-room, go-on, go-done}
 use Rattle.btf.specs.declared.BtfBuilder.{BtfBuilder}
 use Rattle.btf.specs.Builder.{moved, passed, Within}
 

@@ -1,4 +1,3 @@
 pub mod Names
 pub mod There
-pub mod Going
 pub mod Single

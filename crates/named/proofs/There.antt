@@ -36,18 +36,15 @@ maps-from text ds ats lens n i m h =
     rw (add-one i)
     (next-map text ds ats lens n i h (omega (arith, m .few, m .decls-long)) (omega (arith, m .few, m .ats-long)) (omega (arith, m .few, m .lens-long)))
 
-all-maps : (text : List ℕ) (ds : List MapDecl) (ats lens : List ℕ) (n i : ℕ) → n ≤ i → drop i (mapsIn text (take n ds) (take n ats) (take n lens)) ≡ []
-all-maps text ds ats lens zero zero h = refl
-all-maps text ds ats lens zero (suc i) h = refl
-all-maps text ds ats lens (suc n) zero h = absurd (omega arith)
-all-maps text [] ats lens (suc n) (suc i) h = refl
-all-maps text (d ∷ ds) [] lens (suc n) (suc i) h = refl
-all-maps text (d ∷ ds) (a ∷ ats) [] (suc n) (suc i) h = refl
-all-maps text (d ∷ ds) (a ∷ ats) (l ∷ lens) (suc n) (suc i) h = all-maps text ds ats lens n i (omega arith)
-
 -- no map is behind the last
 pub maps-end : (text : List ℕ) (ds : List MapDecl) (ats lens : List ℕ) (n i : ℕ) → n ≤ i → drop i (mapsIn text (take n ds) (take n ats) (take n lens)) ≡ []
-maps-end text ds ats lens n i h = all-maps text ds ats lens n i h
+maps-end text ds ats lens zero zero h = refl
+maps-end text ds ats lens zero (suc i) h = refl
+maps-end text ds ats lens (suc n) zero h = absurd (omega arith)
+maps-end text [] ats lens (suc n) (suc i) h = refl
+maps-end text (d ∷ ds) [] lens (suc n) (suc i) h = refl
+maps-end text (d ∷ ds) (a ∷ ats) [] (suc n) (suc i) h = refl
+maps-end text (d ∷ ds) (a ∷ ats) (l ∷ lens) (suc n) (suc i) h = maps-end text ds ats lens n i (omega arith)
 
 pub kept-maps : (text : List ℕ) (o : BpfObject) → Kept text o → MapsThere text (o .maps) (o .«map_at») (o .«map_len») (o .«map_count»)
 kept-maps text o k =

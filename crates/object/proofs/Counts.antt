@@ -63,7 +63,7 @@ symtab-number j =
 
 -- ---- symbols
 
-count-map-symbols : (at : ℕ) (ms : List Map) → length (mapSymbols at ms) ≡ length ms
+pub count-map-symbols : (at : ℕ) (ms : List Map) → length (mapSymbols at ms) ≡ length ms
 count-map-symbols at [] = refl
 count-map-symbols at (m ∷ ms) = ap suc (count-map-symbols (at + mapSize m) ms)
 

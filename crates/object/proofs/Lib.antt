@@ -1,4 +1,5 @@
 pub mod Read
+pub mod Names
 pub mod Programs
 pub mod Counts
 pub mod Single

@@ -36,18 +36,14 @@ maps-snoc text (e ∷ ds) (b ∷ ats) [] d a l p q = absurd (omega arith)
 maps-snoc text (e ∷ ds) (b ∷ ats) (m ∷ lens) d a l p q =
     ap (λ (ms : List Map). mapIn text e b m ∷ ms) (maps-snoc text ds ats lens d a l (omega arith) (omega arith))
 
--- the first `n` of a table that has as many
-pub took : {A : Type 0} (n : ℕ) (l : List A) → n ≤ length l → length (take n l) ≡ n
-took n l h = length-take-le n l h
-
 -- one more of the maps that stand in the tables
 pub maps-more : (text : List ℕ) (ds : List MapDecl) (ats lens : List ℕ) (n : ℕ) → n < length ds → n < length ats → n < length lens
     → mapsIn text (take (suc n) ds) (take (suc n) ats) (take (suc n) lens)
     ≡ mapsIn text (take n ds) (take n ats) (take n lens) ++ (mapIn text (getD ds n noMap) (getD ats n 0) (getD lens n 0) ∷ [])
 maps-more text ds ats lens n p q r =
-    let d = took n ds (omega arith) in
-    let a = took n ats (omega arith) in
-    let l = took n lens (omega arith) in
+    let d = length-take-le n ds (omega arith) in
+    let a = length-take-le n ats (omega arith) in
+    let l = length-take-le n lens (omega arith) in
     rw (take-suc ds n noMap p, take-suc ats n 0 q, take-suc lens n 0 r) (maps-snoc text (take n ds) (take n ats) (take n lens) _ _ _ (a ∙ sym d) (l ∙ sym d))
 
 -- a map put behind them
@@ -55,13 +51,13 @@ pub maps-set : (text : List ℕ) (ds : List MapDecl) (ats lens : List ℕ) (n : 
     → mapsIn text (take (suc n) (set ds n d)) (take (suc n) (set ats n a)) (take (suc n) (set lens n l))
     ≡ mapsIn text (take n ds) (take n ats) (take n lens) ++ (mapIn text d a l ∷ [])
 maps-set text ds ats lens n d a l p q r =
-    let e = took n ds (omega arith) in
-    let f = took n ats (omega arith) in
-    let g = took n lens (omega arith) in
+    let e = length-take-le n ds (omega arith) in
+    let f = length-take-le n ats (omega arith) in
+    let g = length-take-le n lens (omega arith) in
     rw (take-suc-set ds n d p, take-suc-set ats n a q, take-suc-set lens n l r) (maps-snoc text (take n ds) (take n ats) (take n lens) d a l (f ∙ sym e) (g ∙ sym e))
 
 pub count-maps : (text : List ℕ) (ds : List MapDecl) (ats lens : List ℕ) (n : ℕ) → n ≤ length ds → n ≤ length ats → n ≤ length lens
     → length (mapsIn text (take n ds) (take n ats) (take n lens)) ≡ n
 count-maps text ds ats lens n p q r =
-    let d = took n ds p in
-    maps-length text (take n ds) (take n ats) (take n lens) (took n ats q ∙ sym d) (took n lens r ∙ sym d) ∙ d
+    let d = length-take-le n ds p in
+    maps-length text (take n ds) (take n ats) (take n lens) (length-take-le n ats q ∙ sym d) (length-take-le n lens r ∙ sym d) ∙ d

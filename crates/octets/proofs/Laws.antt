@@ -11,7 +11,7 @@ use lib.ListN.{length, take, drop, getD, set, length-append, length-take, length
 use lib.Seq.{take-suc-set, drop-cons, take-all, append-snoc, drop-at, take-at, drop-drop, length-take-le}
 use lib.Dec.{T, leb, eqb, leb→le, lit<}
 use mathlib.Core.Bool.{Bool, true, false, _&&_}
-use borrow.Author.Tests.{leb-true, leb-false, eq-eqb, ne-eqb}
+use borrow.Author.Tests.{leb-true, leb-false, eqb-true, eqb-false, eq-eqb, ne-eqb}
 use borrow.Rule.Slice.PartMut.{putMid, mid-len}
 use Rattle.octets.specs.Octets.{le, equal}
 use Rattle.octets.proofs.Numbers.{le-length}
@@ -148,6 +148,21 @@ part-on out at e t more h q n w r =
     ∙ sym (rw (q, ← append-assoc (take at out) t (drop (e - at) (drop at out)), take-at (take at out ++ t) (drop (e - at) (drop at out)) e f, append-assoc))
 
 -- ---- equal strings
+
+pub equal-self : (a : List ℕ) → equal a a ≡ true
+equal-self [] = refl
+equal-self (x ∷ a) = rw (eq-eqb x x refl) (equal-self a)
+
+-- the strings may be told in either order
+pub equal-swap : (a b : List ℕ) → equal a b ≡ equal b a
+equal-swap [] [] = refl
+equal-swap [] (y ∷ b) = refl
+equal-swap (x ∷ a) [] = refl
+equal-swap (x ∷ a) (y ∷ b) = rw (equal-swap a b) (go (eqb x y) refl)
+  where
+    go : (t : Bool) → eqb x y ≡ t → (eqb x y && equal b a) ≡ (eqb y x && equal b a)
+    go true e = let h : x ≡ y = eqb-true x y e in simp (e, eq-eqb y x (sym h))
+    go false e = simp (e, ne-eqb y x (λ h. eqb-false x y e (sym h)))
 
 pub equal-on : (a b : List ℕ) (i : ℕ) → i < length a → i < length b
     → equal (drop i a) (drop i b) ≡ (eqb (getD a i 0) (getD b i 0) && equal (drop (i + 1) a) (drop (i + 1) b))

@@ -1,6 +1,7 @@
 pub mod Numbers
 pub mod Laws
 pub mod Filling
+pub mod Going
 pub mod Reading
 pub mod Lists
 pub mod Bytes

@@ -68,7 +68,7 @@ pub record Within (j : Job) : Type 0 where
 -- ---- the last program, changed
 
 module _ (f : Program → Program) where
-  last-count : (ps : List Program) → length (onLast f ps) ≡ length ps
+  pub last-count : (ps : List Program) → length (onLast f ps) ≡ length ps
   last-count [] = refl
   last-count (p ∷ []) = refl
   last-count (p ∷ q ∷ ps) = ap suc (last-count (q ∷ ps))

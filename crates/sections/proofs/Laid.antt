@@ -9,8 +9,7 @@ use Rattle.octets.specs.Over.{over}
 use Rattle.octets.proofs.Laws.{over-length}
 use Rattle.octets.proofs.Filling.{over-part, over-two}
 use Rattle.elf.specs.Elf.{Section, alignTo, place, after, endOf, padding, laid}
-use Rattle.elf.specs.Added.{Alignment, one, four, eight}
-use Rattle.elf.proofs.Places.{align-up}
+use Rattle.elf.proofs.Places.{align-up, align-small}
 use Rattle.sections.specs.Pieces.{Fits}
 
 pub laid-append : (end : ℕ) (xs ys : List Section) → laid end (xs ++ ys) ≡ laid end xs ++ laid (endOf end xs) ys
@@ -29,16 +28,10 @@ end-append end (x ∷ xs) ys = end-append (after end x) xs ys
 pub place-up : (end : ℕ) (s : Section) → 0 < s .align → end ≤ place end s
 place-up end s h = align-up (s .align) end h
 
--- the alignments are positive and at most 8
-pub small : {a : ℕ} → Alignment a → (0 < a) × (a ≤ 8)
-small one = (omega arith, omega arith)
-small four = (omega arith, omega arith)
-small eight = (omega arith, omega arith)
-
 -- one section that has its place: what lies before it is cleared, and its contents are written into its part
 module _ {d : List ℕ} {end size : ℕ} {s : Section} (f : Fits d end size s) where
   up : end ≤ place end s
-  up = place-up end s (small (f .aligned) .0)
+  up = place-up end s (align-small (f .aligned) .0)
 
   pub fits-pad : (alignTo (s .align) end ≤ length d) × (length d ≤ 200000000)
   fits-pad = (omega (arith, f .room), f .short)

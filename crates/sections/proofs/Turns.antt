@@ -14,6 +14,7 @@ use Rattle.ast.specs.Job.{Map}
 use Rattle.btf.specs.Btf.{btfBytes}
 use Rattle.btf.specs.Maps.{mapTypes, btfTypes}
 use Rattle.octets.proofs.Lists.{All, all-append}
+use Rattle.octets.proofs.Going.{Going, go-start, go-as, go-on, go-done}
 use Rattle.elf.specs.Elf.{Section, place, after, endOf, laid}
 use Rattle.elf.specs.Added.{Alignment}
 use Rattle.elf.proofs.Places.{Aligned, end-after, length-laid}
@@ -22,7 +23,6 @@ use Rattle.object.specs.declared.Program.{Program}
 use Rattle.object.specs.Read.{codeOf, body}
 use Rattle.contents.specs.Slots.{slotsBytes, AllPlaced}
 use Rattle.contents.proofs.Slots.{slots-length}
-use Rattle.named.proofs.Going.{Going, go-start, go-as, go-on, go-done}
 use Rattle.sections.specs.Pieces.{bare, relPiece, programPieces, mapPieces, Fits, AllSlotted}
 use Rattle.sections.proofs.Laid.{laid-append, end-append}
 

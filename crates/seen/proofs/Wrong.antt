@@ -1,10 +1,10 @@
 -- The strength of demand 3: it is computed of one job that the right writer keeps it and that each writer of specs/Wrong.antt does not.
 use mathlib.Core.Path.{_≡_, refl, sym, ap, _∙_}
-use mathlib.Core.Bool.{true, false, false≢true}
+use mathlib.Core.Bool.{false, false≢true}
 use mathlib.Core.List.{List, [], _∷_}
 use Prim.Native.Nat.{ℕ}
-use borrow.Author.Tests.{eq-eqb}
 use Rattle.octets.specs.Octets.{equal}
+use Rattle.octets.proofs.Laws.{equal-self}
 use Rattle.octets.proofs.Lists.{All}
 use Rattle.ast.specs.Job.{Job}
 use Rattle.object.specs.Object.{object, declaredSections, symbols}
@@ -30,10 +30,6 @@ object-looked-up j = refl
 -- demand 3 of a writer
 abbrev pub Demand : Writer → Type 0
 Demand w = (t : List ℕ) (j : Job) → checked t ≡ accepted j → reading (w j) ≡ reads (seen j)
-
-equal-self : (a : List ℕ) → equal a a ≡ true
-equal-self [] = refl
-equal-self (x ∷ a) = rw (eq-eqb x x refl) (equal-self a)
 
 refused : (w : Writer) → equal (shown (reading (w job))) (shown (reads (seen job))) ≡ false → Demand w → ⊥
 refused w e d =

@@ -8,11 +8,11 @@ use lib.Seq.{length-take-le}
 use Rattle.octets.specs.Over.{over}
 use Rattle.octets.specs.Octets.{ascii}
 use Rattle.octets.proofs.Laws.{read-done}
+use Rattle.octets.proofs.Going.{Going, go-start, go-as, go-room, go-on, go-done}
 use Rattle.ast.specs.Job.{Map}
 use Rattle.ast.specs.declared.MapDecl.{MapDecl}
 use Rattle.object.specs.Read.{mapsIn}
 use Rattle.named.specs.There.{MapsThere}
-use Rattle.named.proofs.Going.{Going, go-start, go-as, go-room, go-on, go-done}
 use Rattle.btf.specs.declared.BtfBuilder.{BtfBuilder}
 use Rattle.btf.specs.Btf.{BtfType, datasec, varBytes}
 use Rattle.btf.specs.Maps.{intTypes, mapTypes, btfTypes}

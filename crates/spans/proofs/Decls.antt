@@ -7,6 +7,7 @@ use native.Mathlib.Numerals.{add-one}
 use lib.ListN.{length, take, drop, getD, length-take, drop-of-length-le}
 use lib.Seq.{drop-cons, getD-take, length-take-le}
 use Rattle.octets.specs.Over.{over}
+use Rattle.octets.proofs.Going.{Going, go-start, go-as, go-room, go-on, go-done}
 use Rattle.ast.specs.declared.MapType.{MapType}
 use Rattle.ast.specs.declared.MapDecl.{MapDecl}
 use Rattle.ast.specs.declared.TypeAttr.{TypeAttr}
@@ -15,7 +16,6 @@ use Rattle.ast.specs.declared.CountAttr.{CountAttr}
 use Rattle.ast.specs.declared.CountAttr.the-variants as count
 use Rattle.object.specs.Tables.{noMap}
 use Rattle.object.specs.Read.{mapsIn}
-use Rattle.named.proofs.Going.{Going, go-start, go-as, go-room, go-on, go-done}
 use Rattle.btf.specs.declared.BtfBuilder.{BtfBuilder}
 use Rattle.btf.specs.Btf.{varBytes, info}
 use Rattle.btf.specs.Maps.{mapTypes, typeCount}

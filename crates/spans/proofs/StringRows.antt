@@ -9,6 +9,7 @@ use borrow.Rule.Slice.PartMut.{putMid}
 use Rattle.octets.specs.Over.{over}
 use Rattle.octets.proofs.Filling.{over-part}
 use Rattle.octets.specs.Octets.{ascii}
+use Rattle.octets.proofs.Going.{Going, go-start, go-as, go-room, go-on, go-done, over-nothing}
 use Rattle.written.specs.Written.{written}
 use Rattle.ast.specs.Job.{Map}
 use Rattle.ast.specs.declared.«Type».{«Type» as MemberType}
@@ -22,7 +23,6 @@ use Rattle.object.specs.Read.{mapIn}
 use Rattle.object.specs.Tables.{noMap}
 use Rattle.elf.specs.Row.{joined}
 use Rattle.named.specs.There.{MapsThere}
-use Rattle.named.proofs.Going.{Going, go-start, go-as, go-room, go-on, go-done, over-nothing}
 use Rattle.named.proofs.There.{maps-from, maps-end}
 use Rattle.btf.specs.Btf.{BtfType, start, addTypes, datasec}
 use Rattle.btf.specs.Maps.{attributes, mapTypes, btfTypes}

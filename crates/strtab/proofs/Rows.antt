@@ -7,6 +7,7 @@ use native.Mathlib.Omega.{arith}
 use lib.ListN.{length, take, drop, getD, length-take, drop-of-length-le}
 use lib.Seq.{length-take-le}
 use Rattle.octets.specs.Over.{over}
+use Rattle.octets.proofs.Going.{Going, go-start, go-as, go-on, go-room, go-done}
 use Rattle.written.specs.Written.{written}
 use Rattle.ast.specs.Job.{Map}
 use Rattle.ast.specs.declared.MapDecl.{MapDecl}
@@ -20,10 +21,10 @@ use Rattle.object.specs.Tables.{noMap, noProgram}
 use Rattle.object.specs.Read.{mapIn, mapsIn, bytesAt, nameIn}
 use Rattle.object.specs.Object.{mapSymbols}
 use Rattle.object.proofs.Read.{count-maps}
+use Rattle.object.proofs.Counts.{count-map-symbols}
 use Rattle.named.specs.There.{MapsThere}
 use Rattle.named.proofs.Names.{written-most}
 use Rattle.named.proofs.There.{maps-from, maps-end}
-use Rattle.named.proofs.Going.{Going, go-start, go-as, go-on, go-room, go-done}
 use Rattle.strtab.specs.Rows.{rowAt, rowSize, mapRow, behind, programRow, namesIn, programNames, NamesThere, ProgramsThere}
 
 -- ---- any row
@@ -37,10 +38,6 @@ row-is n [] = refl
 row-is n (s ∷ ss) = ap (λ (r : List ℕ). symbolBytes n s ++ r) (row-is (n + suc (length (s .name))) ss)
 
 -- ---- the maps
-
-pub symbols-maps : (at : ℕ) (ms : List Map) → length (mapSymbols at ms) ≡ length ms
-symbols-maps at [] = refl
-symbols-maps at (m ∷ ms) = ap suc (symbols-maps (at + mapSize m) ms)
 
 module _ (text : List ℕ) (ds : List MapDecl) (ats lens : List ℕ) (count : ℕ) where
   abbrev ms : List Map
@@ -66,7 +63,7 @@ module _ (text : List ℕ) (ds : List MapDecl) (ats lens : List ℕ) (count : �
       count-maps text ds ats lens count (omega (arith, there .few, there .decls-long)) (omega (arith, there .few, there .ats-long)) (omega (arith, there .few, there .lens-long)) in
       record {
         most = omega arith;
-        going = go-start d 48 (rowAt 10 whole) (omega (arith, row-length 10 whole, symbols-maps 0 ms));
+        going = go-start d 48 (rowAt 10 whole) (omega (arith, row-length 10 whole, count-map-symbols 0 ms));
         size = refl;
         near = omega arith;
         small = omega arith;

@@ -25,10 +25,11 @@ use Rattle.object.specs.Read.{bytesAt, nameIn, mapIn, licenceIn, mapsIn, reloca
 use Rattle.object.specs.Kept.{Kept, AllKept}
 use Rattle.object.specs.Object.{past, mapSymbols, programSymbols, firstProgram, symbols}
 use Rattle.object.proofs.Read.{count-maps}
+use Rattle.object.proofs.Counts.{count-map-symbols}
 use Rattle.object.proofs.Programs.{kept-more}
 use Rattle.named.specs.There.{Lent}
 use Rattle.strtab.specs.Rows.{rowAt, rowSize, mapRow, behind, firstOf, programRow, namesIn, programNames, symtabOf, strtabOf, NamesThere, ProgramsThere}
-use Rattle.strtab.proofs.Rows.{row-is, row-length, symbols-maps, length-programs}
+use Rattle.strtab.proofs.Rows.{row-is, row-length, length-programs}
 
 -- ---- rows
 
@@ -192,7 +193,7 @@ module _ (text : List ℕ) (o : BpfObject) (k : Kept text o) where
   pub symbols-mapped : (out out′ : List ℕ) → Filling (symtabOf (jobIn text o)) out 48 afterOurs → out′ ≡ over out 48 (rowAt 10 mapped)
       → Filling (symtabOf (jobIn text o)) out′ (48 + 24 * o .«map_count») (rowAt (10 + rowSize mapped) programmed ++ [])
   symbols-mapped out out′ f e =
-      let n : length (rowAt 10 mapped) ≡ 24 * o .«map_count» = row-length 10 mapped ∙ ap (λ (k : ℕ). 24 * k) (symbols-maps 0 (declaredMaps text o) ∙ count-declared) in
+      let n : length (rowAt 10 mapped) ≡ 24 * o .«map_count» = row-length 10 mapped ∙ ap (λ (k : ℕ). 24 * k) (count-map-symbols 0 (declaredMaps text o) ∙ count-declared) in
       fill-on (rowAt 10 mapped) (rowAt (10 + rowSize mapped) programmed ++ []) out′ (48 + 24 * o .«map_count») f e (ap (λ (k : ℕ). 48 + k) (sym n))
 
   pub symbols-programmed : (out out′ : List ℕ) (at names first : ℕ) → Filling (symtabOf (jobIn text o)) out at (rowAt (10 + rowSize mapped) programmed ++ [])
@@ -213,7 +214,7 @@ module _ (text : List ℕ) (o : BpfObject) (k : Kept text o) where
         length-append (rowAt 10 mapped) (rowAt (10 + rowSize mapped) programmed ++ []),
         length-append (rowAt (10 + rowSize mapped) programmed) [],
         row-length 10 mapped,
-        symbols-maps 0 (declaredMaps text o),
+        count-map-symbols 0 (declaredMaps text o),
         count-declared,
         s,
         n,

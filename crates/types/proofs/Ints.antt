@@ -4,7 +4,7 @@ use mathlib.Core.List.{List, [], _∷_, _++_}
 use Prim.Native.Nat.{ℕ, _+_, _^_, _<_}
 use lib.ListN.{length}
 use Rattle.octets.specs.Over.{over}
-use Rattle.named.proofs.Going.{Going, go-room, go-on}
+use Rattle.octets.proofs.Going.{Going, go-room, go-on}
 use Rattle.btf.specs.declared.BtfBuilder.{BtfBuilder}
 use Rattle.btf.specs.Btf.{int, typeBytes}
 use Rattle.btf.specs.Builder.{moved, Within}

@@ -6,8 +6,8 @@ use native.Mathlib.Omega.{arith}
 use lib.ListN.{length, take, drop, length-append}
 use borrow.Rule.Slice.PartMut.{putMid, mid-len}
 use Rattle.octets.proofs.Filling.{over-part}
+use Rattle.octets.proofs.Going.{Going, go-start, go-as, go-on, go-done}
 use Rattle.ast.specs.Job.{Map}
-use Rattle.named.proofs.Going.{Going, go-start, go-as, go-on, go-done}
 use Rattle.btf.specs.Btf.{start, addTypes, finished, btfBytes}
 use Rattle.btf.specs.Maps.{btfTypes}
 use Rattle.btf.specs.Builder.{bytesAt}

@@ -1,6 +1,6 @@
 -- Texts of ASCII alone: their code points are their bytes. The walk that looks for another byte gathers what it finds in one number.
 use mathlib.Core.Path.{_≡_, refl, sym, _∙_, ap}
-use mathlib.Core.Bool.{Bool, true, false, cond, _&&_, and-true}
+use mathlib.Core.Bool.{Bool, true, false, cond, _&&_, and-true, false≢true}
 use mathlib.Core.Option.{Option, none, some}
 use mathlib.Core.List.{List, [], _∷_}
 use Prim.Native.Nat.{ℕ, _+_, _*_, _≤_, _<_}
@@ -13,7 +13,6 @@ use Rattle.octets.proofs.Laws.{read-on, read-done}
 use Rattle.octets.proofs.Tests.{and-true-both}
 use Rattle.octets.proofs.Gather.{all-on}
 use Rattle.lines.specs.Hex.{there, isHex, bytesIn}
-use Rattle.lines.proofs.Laws.{no}
 use Rattle.lines.proofs.Bytes.{numberOf, digit-at, byte-here}
 use Rattle.lines.proofs.Same.{digit-is}
 use Rattle.utf8.specs.Utf8.{idle, point, put, points, isText, allAscii}
@@ -47,7 +46,7 @@ same-test a k b m f g = go (leb a k) refl
     go false e = sym (lt-leb b m (g (leb-false a k e)))
 
 numbered : (o : Option ℕ) → there o ≡ true → some (numberOf o) ≡ o
-numbered none t = absurd (no t)
+numbered none t = absurd (false≢true t)
 numbered (some n) t = refl
 
 pub first-digit : (s : List ℕ) (i : ℕ) → 2 * i + 1 < length s → isHex s ≡ true → leb (getD s (2 * i) 0) 55 ≡ leb (getD (bytesIn s) i 0) 127

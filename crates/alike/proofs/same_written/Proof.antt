@@ -6,11 +6,12 @@ use Prim.Native.Nat.{ℕ}
 use native.Mathlib.Omega.{arith}
 use borrow.Author.Tests.{not-true, not-false}
 use Rattle.octets.specs.Octets.{equal}
+use Rattle.octets.proofs.Laws.{equal-swap}
 use Rattle.lines.specs.Hex.{bytesIn}
 use Rattle.lines.proofs.Bytes.{bytes-length}
 use Rattle.utf8.specs.Utf8.{isText}
 use Rattle.written.specs.Written.{written}
-use Rattle.alike.proofs.SameWritten.{no-text, one-text, empty-written, equal-swap}
+use Rattle.alike.proofs.SameWritten.{no-text, one-text, empty-written}
 use Rattle.alike.proofs.same_written.Statement.{statement}
 use Rattle.alike.proofs.same_written.Tie as tie
 

@@ -1,5 +1,5 @@
 -- `btf::put_words` meets its contract. Assumes nothing.
-use mathlib.Core.Path.{_≡_, refl, _∙_, ap}
+use mathlib.Core.Path.{_≡_, refl}
 use mathlib.Core.List.{[], _++_}
 use Prim.Native.Nat.{_≤_, _-_, _+_}
 use native.Mathlib.Omega.{arith}
@@ -7,15 +7,15 @@ use lib.ListN.{length, drop, getD}
 use borrow.Author.Needs.{needs}
 use Rattle.octets.specs.Octets.{le}
 use Rattle.octets.specs.Over.{over}
-use Rattle.octets.proofs.Laws.{over-length}
+use Rattle.octets.proofs.Going.{Going, go-start, go-as, go-room, go-on, go-done}
 use Rattle.btf.specs.Builder.{words}
-use Rattle.btf.proofs.Writing.{Writing, write-start, write-as, write-piece, write-end, length-words, words-on, words-done}
+use Rattle.btf.proofs.Words.{length-words, words-on, words-done}
 use Rattle.btf.proofs.put_words.Statement.{statement}
 use Rattle.btf.proofs.put_words.Tie as tie
 
 abbrev Inv-loop : tie.InvT-loop
 Inv-loop out₀ at values place₀ i₀ out place i =
-    (i ≤ length values) × (length out ≡ length out₀) × Writing (over out₀ at (words values)) out place (words (drop i values))
+    (i ≤ length values) × Going out₀ at (words values) out place (words (drop i values))
 
 abbrev μ-loop : tie.MeasureT-loop
 μ-loop out₀ at values place₀ i₀ out place i = length values - i
@@ -24,24 +24,31 @@ loop-holds : tie.Need-loop-holds Inv-loop μ-loop
 loop-holds c =
     let p = c .before .before in
     let n = length-words (p .args .values .now) in
-    (omega arith, refl, write-start (p .args .out .now) (p .args .at) (words (p .args .values .now)) (omega (arith, p .pre)))
+    (omega arith, go-start (p .args .out .now) (p .args .at) (words (p .args .values .now)) (omega (arith, p .pre)))
 
 -- the number that a turn writes is the next of those still to come
 turn : (c : tie.In-loop Inv-loop μ-loop) →
     let l = c .before .loop in
     let p = c .before .before .before .before in
     let v = p .args .values .now in
-    Writing (over (p .args .out .now) (p .args .at) (words v)) (l .out) (l .place) (le 4 (getD v (l .i) 0) ++ words (drop (l .i + 1) v))
+    Going (p .args .out .now) (p .args .at) (words v) (l .out) (l .place) (le 4 (getD v (l .i) 0) ++ words (drop (l .i + 1) v))
 turn c =
     let l = c .before .loop in
     let v = c .before .before .before .before .args .values .now in
-    write-as (le 4 (getD v (l .i) 0) ++ words (drop (l .i + 1) v)) (words-on v (l .i) (omega arith)) (l .inv .2)
+    go-as (le 4 (getD v (l .i) 0) ++ words (drop (l .i + 1) v)) (words-on v (l .i) (omega arith)) (l .inv .1)
+
+-- it has room
+room : (c : tie.In-loop Inv-loop μ-loop) → c .before .loop .place + 4 ≤ length (c .before .loop .out)
+room c =
+    let i = c .before .loop .i in
+    let v = c .before .before .before .before .args .values .now in
+    go-room (le 4 (getD v i 0)) (words (drop (i + 1) v)) (turn c)
 
 put-at-requires : tie.Need-put-at-requires Inv-loop μ-loop
-put-at-requires c κs = omega (arith, turn (c .before .before) .room)
+put-at-requires c κs = room (c .before .before)
 
 add-place : tie.Need-add-place Inv-loop μ-loop
-add-place c = omega (arith, turn (c .before .before .before .before .before) .room)
+add-place c = omega (arith, room (c .before .before .before .before .before))
 
 loop-again : tie.Need-loop-again Inv-loop μ-loop
 loop-again c =
@@ -49,11 +56,7 @@ loop-again c =
     let l = q .before .before .before .before .loop in
     let v = q .before .before .before .before .before .before .before .args .values .now in
     let t = turn (q .before .before .before) in
-    let e = q .put-at .ensures in (
-      omega arith,
-      ap length e ∙ over-length (l .out) (l .place) (le 4 (getD v (l .i) 0)) (omega (arith, t .room)) ∙ l .inv .1,
-      write-piece (le 4 (getD v (l .i) 0)) (words (drop (l .i + 1) v)) (q .put-at .last .0) (l .place + 4) t e refl,
-    )
+    (omega arith, go-on (le 4 (getD v (l .i) 0)) (words (drop (l .i + 1) v)) (q .put-at .last .0) (l .place + 4) t (q .put-at .ensures) refl)
 
 -- all numbers are written
 ended : (c : tie.After-loop Inv-loop μ-loop) →
@@ -62,7 +65,7 @@ ended : (c : tie.After-loop Inv-loop μ-loop) →
 ended c =
     let l = c .before .loop in
     let v = c .before .before .before .before .args .values .now in
-    write-end (write-as [] (words-done v (l .i) (omega arith)) (l .inv .2))
+    go-done (go-as [] (words-done v (l .i) (omega arith)) (l .inv .1)) .0
 
 returns : tie.Need-returns Inv-loop μ-loop
 returns c = ended c

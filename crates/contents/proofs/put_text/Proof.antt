@@ -1,16 +1,15 @@
 -- `contents::put_text` meets its contract: a run of two parts. Assumes nothing.
 use mathlib.Core.Path.{_≡_, refl, _∙_, ap}
 use mathlib.Core.List.{[], _∷_}
-use Prim.Native.Nat.{ℕ, _+_, _-_, _*_, _≤_}
+use Prim.Native.Nat.{_+_, _-_, _*_}
 use native.Mathlib.Omega.{arith}
-use lib.ListN.{length, take, drop, length-drop}
-use lib.Seq.{length-take-le}
+use lib.ListN.{length, take, drop}
 use borrow.Author.Needs.{needs}
 use borrow.Rule.Slice.PartMut.{putMid, mid-len}
 use Rattle.octets.specs.Octets.{zeros}
 use Rattle.octets.proofs.Laws.{start, part, part-long, done}
 use Rattle.lines.specs.Hex.{bytesIn}
-use Rattle.contents.proofs.Slots.{name-length}
+use Rattle.object.proofs.Names.{part-hex, part-length, part-name, name-length}
 use Rattle.contents.proofs.put_text.Statement.{statement}
 use Rattle.contents.proofs.put_text.Tie as tie
 
@@ -20,9 +19,7 @@ put-unhex-requires c κs =
     let text = p .args .text .now in
     let name = p .args .name in
     let k = p .pre .0 in
-    let e : name .at + 2 * name .len - name .at ≡ 2 * name .len = omega arith in
-    let h : 2 * name .len ≤ length (drop (name .at) text) = rw length-drop (omega (arith, k .inside)) in
-    (rw e (k .hex), rw e (omega (arith, length-take-le (2 * name .len) (drop (name .at) text) h, mid-len 0 (name .len) (p .args .out .now) (omega (arith, p .pre .1)))))
+    (part-hex text name k, omega (arith, part-length text name k, mid-len 0 (name .len) (p .args .out .now) (omega (arith, p .pre .1))))
 
 returns : tie.Need-returns
 returns c =
@@ -32,10 +29,9 @@ returns c =
     let text = p .args .text .now in
     let name = p .args .name in
     let n = name .len in
-    let e : name .at + 2 * n - name .at ≡ 2 * n = omega arith in
     let one : n + 1 - n ≡ 1 = omega arith in
     let r₀ = start (p .args .out .now) (p .pre .1) in
-    let u = c₁ .put-unhex .ensures ∙ ap (λ (k : ℕ). bytesIn (take k (drop (name .at) text))) e in
+    let u = c₁ .put-unhex .ensures ∙ part-name text name (p .pre .0) in
     let r₁ = part n (bytesIn (take (2 * n) (drop (name .at) text))) r₀ u (omega (arith, name-length text name (p .pre .0))) in
     let w : c₂ .clear .last .0 ≡ zeros (length (take (n + 1 - n) (drop n (putMid 0 (n - 0) (p .args .out .now) (c₁ .put-unhex .last .0))))) = c₂ .clear .ensures in
     let z = ap zeros (part-long (n + 1) r₁ (omega arith) (omega arith) ∙ one) in

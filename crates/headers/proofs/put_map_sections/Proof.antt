@@ -8,7 +8,7 @@ use borrow.Author.Needs.{needs}
 use Rattle.octets.specs.Octets.{ascii}
 use Rattle.octets.specs.Over.{over}
 use Rattle.octets.proofs.Filling.{over-two}
-use Rattle.named.proofs.Going.{over-nothing}
+use Rattle.octets.proofs.Going.{over-nothing}
 use Rattle.headers.proofs.Names.{no-map-sections, map-sections}
 use Rattle.headers.proofs.put_map_sections.Statement.{statement}
 use Rattle.headers.proofs.put_map_sections.Tie as tie

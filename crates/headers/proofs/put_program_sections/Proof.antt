@@ -5,8 +5,8 @@ use Prim.Native.Nat.{_-_, _≤_}
 use native.Mathlib.Omega.{arith}
 use lib.ListN.{length, take}
 use borrow.Author.Needs.{needs}
+use Rattle.octets.proofs.Going.{Going, go-start}
 use Rattle.elf.specs.Row.{joined}
-use Rattle.named.proofs.Going.{Going, go-start}
 use Rattle.named.proofs.There.{kept-program}
 use Rattle.strtab.specs.Rows.{ProgramsThere}
 use Rattle.headers.specs.Names.{programSectionNames}

@@ -10,7 +10,7 @@ use Rattle.octets.specs.Octets.{zeros}
 use Rattle.octets.proofs.Laws.{over-length}
 use Rattle.octets.proofs.Filling.{over-part, over-two}
 use Rattle.object.specs.Read.{nameIn}
-use Rattle.named.proofs.Names.{name-length}
+use Rattle.object.proofs.Names.{name-length}
 use Rattle.headers.proofs.put_section.Statement.{statement}
 use Rattle.headers.proofs.put_section.Tie as tie
 

@@ -1,16 +1,18 @@
 -- `maker::build` meets its contract. Assumes nothing.
 use mathlib.Core.Path.{_≡_, refl, sym, _∙_, ap}
+use mathlib.Core.List.{List}
 use Prim.Native.Nat.{ℕ, suc, _+_, _-_, _*_, _≤_}
 use native.Mathlib.Omega.{arith}
-use lib.ListN.{length}
+use lib.ListN.{length, take, drop}
 use borrow.Author.Needs.{needs}
 use borrow.Rule.Slice.PartMut.{mid-len}
 use Rattle.object.specs.Read.{jobIn}
 use Rattle.object.specs.Object as whole
+use Rattle.named.proofs.Names.{over-front}
 use Rattle.headers.specs.Headers.{headersBytes}
 use Rattle.measure.specs.declared.Measured.{Measured}
 use Rattle.measure.specs.Measured.{rowsOf, measuredOf}
-use Rattle.maker.proofs.Sizes.{few-sections, count-is, headers-long, table-front}
+use Rattle.maker.proofs.Sizes.{few-sections, count-is, headers-long}
 use Rattle.maker.proofs.Answered.{too-short, fits}
 use Rattle.maker.proofs.build.Statement.{statement}
 use Rattle.maker.proofs.build.Tie as tie
@@ -59,7 +61,7 @@ write-requires c κs =
     let k : n - 0 ≡ n = omega arith in
     let size = headers-long (a .text .now) (a .t3) (p .pre) (m .measure .result) (is m) in
     let part = mid-len 0 n (a .out .now) (omega (arith, c .before .before .before .before .before .before .before .before .before .if1 .left)) ∙ k in
-    (record { kept = p .pre; ats-are = refl; lens-are = refl }, (w .weigh .ensures .0, (w .weigh .ensures .1 .0, (w .weigh .ensures .1 .1, (is m, (table-front _ _ (headersBytes (rowsOf (jobIn (a .text .now) (a .t3)))) (64 * m .measure .result .count) (m .measure .ensures .0) (sym size), (part ∙ long m, omega (arith, part, m .measure .ensures .1 .1))))))))
+    (record { kept = p .pre; ats-are = refl; lens-are = refl }, (w .weigh .ensures .0, (w .weigh .ensures .1 .0, (w .weigh .ensures .1 .1, (is m, (ap (λ (l : List ℕ). take (64 * m .measure .result .count - 0) (drop 0 l)) (m .measure .ensures .0) ∙ over-front _ (headersBytes (rowsOf (jobIn (a .text .now) (a .t3)))) (64 * m .measure .result .count) size, (part ∙ long m, omega (arith, part, m .measure .ensures .1 .1))))))))
 
 returns-2 : tie.Need-returns-2
 returns-2 c =

@@ -7,7 +7,8 @@ use lib.ListN.{length, replicate, take, drop}
 use borrow.Author.Needs.{needs}
 use Rattle.written.specs.Written.{written}
 use Rattle.object.specs.Read.{nameIn}
-use Rattle.named.proofs.Names.{name-length, written-most, over-front}
+use Rattle.object.proofs.Names.{name-length}
+use Rattle.named.proofs.Names.{written-most, over-front}
 use Rattle.named.proofs.decoded_size.Statement.{statement}
 use Rattle.named.proofs.decoded_size.Tie as tie
 

@@ -7,7 +7,7 @@ use borrow.Author.Needs.{needs}
 use borrow.Rule.Slice.PartMut.{mid-len}
 use Rattle.octets.proofs.Filling.{over-part}
 use Rattle.object.specs.Read.{nameIn}
-use Rattle.named.proofs.Names.{part-hex, part-length, part-name, name-length}
+use Rattle.object.proofs.Names.{part-hex, part-length, part-name, name-length}
 use Rattle.named.proofs.put_name.Statement.{statement}
 use Rattle.named.proofs.put_name.Tie as tie
 

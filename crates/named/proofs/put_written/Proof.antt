@@ -14,7 +14,8 @@ use Rattle.octets.proofs.Filling.{over-part, over-two}
 use Rattle.utf8.specs.Utf8.{isText}
 use Rattle.written.specs.Written.{written}
 use Rattle.object.specs.Read.{nameIn}
-use Rattle.named.proofs.Names.{name-length, over-front}
+use Rattle.object.proofs.Names.{name-length}
+use Rattle.named.proofs.Names.{over-front}
 use Rattle.named.proofs.put_written.Statement.{statement}
 use Rattle.named.proofs.put_written.Tie as tie
 

@@ -10,7 +10,7 @@ use Rattle.utf8.specs.Utf8.{allAscii}
 use Rattle.written.specs.Written.{written}
 use Rattle.written.proofs.Ascii.{written-ascii, written-none, written-some}
 use Rattle.object.specs.Read.{nameIn}
-use Rattle.named.proofs.Names.{part-hex, part-name, name-length, written-most}
+use Rattle.object.proofs.Names.{part-hex, part-name, name-length}
 use Rattle.named.proofs.written_size.Statement.{statement}
 use Rattle.named.proofs.written_size.Tie as tie
 

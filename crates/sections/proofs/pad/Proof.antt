@@ -8,25 +8,24 @@ use borrow.Rule.Slice.PartMut.{mid-len}
 use Rattle.octets.specs.Octets.{zeros}
 use Rattle.octets.proofs.Filling.{over-part}
 use Rattle.elf.specs.Elf.{alignTo, padding}
-use Rattle.elf.proofs.Places.{align-up}
-use Rattle.sections.proofs.Laid.{small}
+use Rattle.elf.proofs.Places.{align-up, align-small}
 use Rattle.sections.proofs.pad.Statement.{statement}
 use Rattle.sections.proofs.pad.Tie as tie
 
 align-to-requires : tie.Need-align-to-requires
 align-to-requires c κs =
     let p = c .before in
-    (p .pre .0, omega (arith, p .pre .1, small (p .pre .0), align-up (p .args .align) (p .args .end) (small (p .pre .0) .0)))
+    (p .pre .0, omega (arith, p .pre .1, align-small (p .pre .0), align-up (p .args .align) (p .args .end) (align-small (p .pre .0) .0)))
 
 sub-clear : tie.Need-sub-clear
 sub-clear c =
     let p = c .before .before in
-    omega (arith, c .align-to .ensures, align-up (p .args .align) (p .args .end) (small (p .pre .0) .0))
+    omega (arith, c .align-to .ensures, align-up (p .args .align) (p .args .end) (align-small (p .pre .0) .0))
 
 part-start : tie.Need-part-clear-start
 part-start c =
     let p = c .before .before in
-    omega (arith, c .align-to .ensures, align-up (p .args .align) (p .args .end) (small (p .pre .0) .0))
+    omega (arith, c .align-to .ensures, align-up (p .args .align) (p .args .end) (align-small (p .pre .0) .0))
 
 part-end : tie.Need-part-clear-end
 part-end c = let p = c .before .before in omega (arith, c .align-to .ensures, p .pre .1)
@@ -37,7 +36,7 @@ returns c =
     let g = u .before .before in
     let p = g .before .before in
     let a = p .args in
-    let up = align-up (a .align) (a .end) (small (p .pre .0) .0) in
+    let up = align-up (a .align) (a .end) (align-small (p .pre .0) .0) in
     let n = length-replicate {A = ℕ} (alignTo (a .align) (a .end) - a .end) 0 in (
       over-part (a .out .now) (a .end) (g .align-to .result) _ (padding (a .align) (a .end)) (omega (arith, n, up, g .align-to .ensures))
           (u .clear .ensures ∙ ap zeros (mid-len (a .end) (g .align-to .result) (a .out .now) (omega (arith, g .align-to .ensures, p .pre .1)) ∙ ap (λ (x : ℕ). x - a .end) (g .align-to .ensures))),

@@ -7,13 +7,13 @@ use lib.ListN.{length, length-replicate}
 use borrow.Author.Needs.{needs}
 use Rattle.octets.specs.Octets.{zeros}
 use Rattle.octets.specs.Over.{over}
+use Rattle.octets.proofs.Going.{over-nothing}
 use Rattle.elf.specs.Elf.{Section, laid, endOf}
 use Rattle.elf.specs.Added.{four, eight}
 use Rattle.btf.specs.Btf.{btfBytes}
 use Rattle.btf.specs.Maps.{mapTypes, btfTypes}
 use Rattle.object.specs.Read.{declaredMaps}
 use Rattle.named.proofs.There.{kept-maps}
-use Rattle.named.proofs.Going.{over-nothing}
 use Rattle.sections.specs.Pieces.{bare, mapPieces, Fits}
 use Rattle.sections.proofs.Turns.{Turn, turn-start, turn-fits, turn-on, turn-done, no-maps, some-maps, zeros-piece}
 use Rattle.sections.proofs.write_maps.Statement.{statement}

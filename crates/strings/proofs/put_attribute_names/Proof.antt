@@ -4,8 +4,8 @@ use mathlib.Core.List.{List, [], _∷_, _++_, append-nil}
 use Prim.Native.Nat.{ℕ}
 use borrow.Author.Needs.{needs}
 use Rattle.octets.specs.Octets.{ascii}
+use Rattle.octets.proofs.Going.{Going, go-start, go-as, go-room, go-on, go-done}
 use Rattle.ast.specs.declared.MapDecl.{MapDecl}
-use Rattle.named.proofs.Going.{Going, go-start, go-as, go-room, go-on, go-done}
 use Rattle.members.specs.Strings.{typeName, countName, attrNames}
 use Rattle.strings.proofs.put_attribute_names.Statement.{statement}
 use Rattle.strings.proofs.put_attribute_names.Tie as tie

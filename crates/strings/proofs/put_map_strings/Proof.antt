@@ -5,10 +5,10 @@ use Prim.Native.Nat.{ℕ}
 use native.Mathlib.Omega.{arith}
 use lib.ListN.{length-append}
 use borrow.Author.Needs.{needs}
+use Rattle.octets.proofs.Going.{Going, go-start, go-as, go-room, go-on, go-done}
 use Rattle.written.specs.Written.{written}
 use Rattle.ast.specs.declared.MapDecl.{MapDecl}
 use Rattle.object.specs.Read.{nameIn}
-use Rattle.named.proofs.Going.{Going, go-start, go-as, go-room, go-on, go-done}
 use Rattle.members.specs.Strings.{attrNames}
 use Rattle.strings.proofs.put_map_strings.Statement.{statement}
 use Rattle.strings.proofs.put_map_strings.Tie as tie

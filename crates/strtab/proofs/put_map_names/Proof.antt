@@ -5,10 +5,10 @@ use Prim.Native.Nat.{ℕ, _+_, _-_, _*_, _≤_, _<_}
 use native.Mathlib.Omega.{arith}
 use lib.ListN.{length, take, drop, getD}
 use borrow.Author.Needs.{needs}
+use Rattle.octets.proofs.Going.{Going, go-start}
 use Rattle.written.specs.Written.{written}
 use Rattle.elf.specs.Row.{joined}
 use Rattle.object.specs.Read.{bytesAt}
-use Rattle.named.proofs.Going.{Going, go-start}
 use Rattle.strtab.specs.Rows.{namesIn, NamesThere}
 use Rattle.strtab.proofs.Rows.{names-on, names-room, names-done, name-from, name-end}
 use Rattle.strtab.proofs.put_map_names.Statement.{statement}

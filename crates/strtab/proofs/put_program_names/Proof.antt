@@ -5,8 +5,8 @@ use Prim.Native.Nat.{ℕ, _+_, _-_, _*_, _≤_, _<_}
 use native.Mathlib.Omega.{arith}
 use lib.ListN.{length, take, drop, getD}
 use borrow.Author.Needs.{needs}
+use Rattle.octets.proofs.Going.{Going, go-start}
 use Rattle.elf.specs.Row.{joined}
-use Rattle.named.proofs.Going.{Going, go-start}
 use Rattle.named.proofs.There.{kept-program}
 use Rattle.strtab.specs.Rows.{programNames, ProgramsThere}
 use Rattle.strtab.proofs.Rows.{names-on, names-room, names-done, program-name-from, program-name-end}

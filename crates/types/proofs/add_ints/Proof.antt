@@ -3,7 +3,7 @@ use mathlib.Core.List.{List, [], _++_}
 use Prim.Native.Nat.{ℕ}
 use native.Mathlib.Omega.{arith}
 use borrow.Author.Needs.{needs}
-use Rattle.named.proofs.Going.{go-start, go-done}
+use Rattle.octets.proofs.Going.{go-start, go-done}
 use Rattle.btf.specs.declared.BtfBuilder.{BtfBuilder}
 use Rattle.btf.specs.Maps.{intTypes}
 use Rattle.btf.specs.Builder.{newBuilder, bytesAt}
