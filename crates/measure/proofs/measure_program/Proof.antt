@@ -71,7 +71,7 @@ rel-requires : tie.Need-rel-requires
 rel-requires c κs =
     let u = c .before .before .before in
     let p = u .before .before .before .before .before .before in
-    (omega (arith, low u), (omega (arith, low u), (omega (arith, p .pre .1 .1), omega (arith, p .pre .0))))
+    (omega (arith, low u), (omega (arith, low u), (omega (arith, p .pre .1 .1), omega (arith, p .pre .0, low u))))
 
 add-section-requires-2 : tie.Need-add-section-requires-2
 add-section-requires-2 c κs =
