@@ -30,10 +30,11 @@ pub enum CountAttr {
 }
 
 // A name, as the place in the job's text where its first character stands, and how many bytes it has. A byte takes two characters, a
-// text has at most 65,535 and a name at most 64 bytes.
+// text has at most 65,535 and a name at most 64 bytes. Both numbers have one width, so that a table of names has no gaps and is cleared
+// in one piece.
 pub struct Name {
     pub at: u16,
-    pub len: u8,
+    pub len: u16,
 }
 
 // A map's declaration. Its name stands beside it, as a place in the job's text.

@@ -17,16 +17,16 @@ use Rattle.ast.specs.declared.Name.{Name}
 use Rattle.object.specs.declared.License.{License}
 use Rattle.object.specs.declared.License.the-variants.{Gpl, Text}
 use Rattle.object.specs.declared.Entry.{Entry}
-use Rattle.object.specs.declared.Entry.the-variants.{Empty, At}
+use Rattle.object.specs.declared.Entry.the-variants.{Empty, Taken}
 use Rattle.object.specs.declared.Slot.{Slot}
 use Rattle.object.specs.declared.Program.{Program}
 use Rattle.object.specs.declared.BpfObject.{BpfObject}
 use Rattle.object.specs.Object.{mapSymbol, relocationBytes}
 use Rattle.object.specs.Tables.{emptySlot}
-use Rattle.object.specs.Read.{bytesAt, licenceIn, entryIn, relocationsIn, declaredMaps}
-use Rattle.object.specs.Kept.{Named, LicenceNamed, ResolvedEntry, Kept}
+use Rattle.object.specs.Read.{bytesAt, licenceIn, entryIn, slotIn, relocationsIn, declaredMaps}
+use Rattle.object.specs.Kept.{Named, LicenceNamed, ResolvedEntry, ResolvedSlot, Kept}
 use Rattle.object.proofs.Names.{name-length}
-use Rattle.contents.specs.Slots.{licenceLen, slotBytes, slotsBytes, PlacedSlot, AllPlaced, AllResolved}
+use Rattle.contents.specs.Slots.{licenceLen, entryBytes, slotBytes, slotsBytes, PlacedEntry, PlacedSlot, AllPlaced, AllResolved}
 
 -- ---- the licence
 
@@ -40,29 +40,29 @@ text-named text l n e k = rw e at k
 
 -- ---- resolved slots
 
-entry-resolved : (text : List ℕ) (ms : List Map) (e : Entry) → ResolvedEntry text ms e
-    → slotBytes text e ≡ relBytes (entryIn text e .offset) (mapSymbol ms (entryIn text e .map))
-entry-resolved text ms Empty r = absurd r
-entry-resolved text ms (At place len number) r = rw (r .last, mapSymbol)
+entry-resolved : (text : List ℕ) (ms : List Map) (e : Entry) (place len number : ℕ) → ResolvedEntry text ms e place len number
+    → entryBytes text e place number ≡ relBytes (entryIn text e place len .offset) (mapSymbol ms (entryIn text e place len .map))
+entry-resolved text ms Empty place len number r = absurd r
+entry-resolved text ms Taken place len number r = rw (r .last, mapSymbol)
 
 pub slots-resolved : (text : List ℕ) (ms : List Map) (ss : List Slot) → AllResolved text ms ss
     → slotsBytes text ss ≡ relocationBytes ms (relocationsIn text ss)
 slots-resolved text ms [] r = refl
-slots-resolved text ms (s ∷ ss) r = rw (entry-resolved text ms (s .entry) (r .0), slots-resolved text ms ss (r .1))
+slots-resolved text ms (s ∷ ss) r = rw (entry-resolved text ms (s .entry) (s .place) (s .len) (s .map) (r .0), slots-resolved text ms ss (r .1))
 
-entry-placed : (text : List ℕ) (ms : List Map) (e : Entry) → ResolvedEntry text ms e → PlacedSlot text e
-entry-placed text ms Empty r = r
-entry-placed text ms (At place len number) r = (r .inside, r .hex)
+entry-placed : (text : List ℕ) (ms : List Map) (e : Entry) (place len number : ℕ) → ResolvedEntry text ms e place len number → PlacedEntry text e place len
+entry-placed text ms Empty place len number r = r
+entry-placed text ms Taken place len number r = (r .inside, r .hex)
 
 pub resolved-placed : (text : List ℕ) (ms : List Map) (ss : List Slot) → AllResolved text ms ss → AllPlaced text ss
 resolved-placed text ms [] r = tt
-resolved-placed text ms (s ∷ ss) r = (entry-placed text ms (s .entry) (r .0), resolved-placed text ms ss (r .1))
+resolved-placed text ms (s ∷ ss) r = (entry-placed text ms (s .entry) (s .place) (s .len) (s .map) (r .0), resolved-placed text ms ss (r .1))
 
 -- ---- the slots of a program
 
 -- a part of a table whose slots are resolved one by one
 taken-resolved : (text : List ℕ) (ms : List Map) (l : List Slot) (k : ℕ) → k ≤ length l
-    → ((i : ℕ) → i < k → ResolvedEntry text ms (getD l i emptySlot .entry)) → AllResolved text ms (take k l)
+    → ((i : ℕ) → i < k → ResolvedSlot text ms (getD l i emptySlot)) → AllResolved text ms (take k l)
 taken-resolved text ms l zero h f = tt
 taken-resolved text ms [] (suc k) h f = tt
 taken-resolved text ms (s ∷ l) (suc k) h f = (f 0 (omega arith), taken-resolved text ms l k (omega arith) (λ i g. f (suc i) (omega arith)))
@@ -97,13 +97,13 @@ module _ (text : List ℕ) (place : ℕ) (inside : place + 16 ≤ length text) (
 pub slots-length : (text : List ℕ) (ss : List Slot) → AllPlaced text ss → length (slotsBytes text ss) ≡ 16 * length ss
 slots-length text [] k = refl
 slots-length text (s ∷ ss) k =
-    omega (arith, length-append (slotBytes text (s .entry)) (slotsBytes text ss), entry-length text (s .entry) (k .0), slots-length text ss (k .1))
+    omega (arith, length-append (slotBytes text s) (slotsBytes text ss), entry-length text (s .entry) (s .place) (s .len) (s .map) (k .0), slots-length text ss (k .1))
   where
-    entry-length : (text : List ℕ) (e : Entry) → PlacedSlot text e → length (slotBytes text e) ≡ 16
-    entry-length text Empty k = absurd k
-    entry-length text (At place len map) k = refl
+    entry-length : (text : List ℕ) (e : Entry) (place len map : ℕ) → PlacedEntry text e place len → length (entryBytes text e place map) ≡ 16
+    entry-length text Empty place len map k = absurd k
+    entry-length text Taken place len map k = refl
 
--- what is known of a slot that is the next one of a row: it is `At place len map`, and `more` come behind it
+-- what is known of a slot that is the next one of a row, with its place and its map, where `more` come behind it
 pub record Next (text : List ℕ) (place map : ℕ) (rest more : List Slot) : Type 0 where
   pub inside : place + 16 ≤ length text
   pub hex : isHex (take 16 (drop place text)) ≡ true
@@ -119,25 +119,26 @@ module _ (text : List ℕ) (slots : List Slot) (first count i : ℕ) (inside : f
       rw (add-one i) (drop-cons row i emptySlot (omega arith))
       ∙ ap (λ (s : Slot). s ∷ drop (i + 1) row) (getD-take count (drop first slots) i emptySlot few ∙ getD-drop first slots i emptySlot)
 
-  pub next-slot : (place len map : ℕ) → getD slots (first + i) emptySlot .entry ≡ At place len map → AllPlaced text (drop i (take count (drop first slots)))
-      → Next text place map (drop i (take count (drop first slots))) (drop (i + 1) (take count (drop first slots)))
-  next-slot place len map e k =
+  pub next-slot : (s : Slot) → getD slots (first + i) emptySlot ≡ s → s .entry ≡ Taken → AllPlaced text (drop i (take count (drop first slots)))
+      → Next text (s .place) (s .map) (drop i (take count (drop first slots))) (drop (i + 1) (take count (drop first slots)))
+  next-slot s z e k =
       let row = take count (drop first slots) in
       let more = drop (i + 1) row in
-      let f : AllPlaced text (getD slots (first + i) emptySlot ∷ more) = rw slot-next at k in
-      let g : PlacedSlot text (At place len map) = rw e at (f .0) in
+      let f : AllPlaced text (s ∷ more) = rw (slot-next, z) at k in
+      let g : PlacedEntry text Taken (s .place) (s .len) = rw e at (f .0) in
       record {
         inside = omega (arith, g .0);
         hex = g .1;
-        bytes = ap (slotsBytes text) slot-next ∙ ap (λ (x : Entry). slotBytes text x ++ slotsBytes text more) e;
+        bytes = ap (slotsBytes text) (rw z at slot-next) ∙ ap (λ (x : Entry). entryBytes text x (s .place) (s .map) ++ slotsBytes text more) e;
         placed = f .1;
       }
 
   -- no slot of the row is empty
-  pub not-empty : getD slots (first + i) emptySlot .entry ≡ Empty → AllPlaced text (drop i (take count (drop first slots))) → ⊥
-  not-empty e k =
-      let f : AllPlaced text (getD slots (first + i) emptySlot ∷ drop (i + 1) (take count (drop first slots))) = rw slot-next at k in
-      rw e at (f .0)
+  pub not-empty : (s : Slot) → getD slots (first + i) emptySlot ≡ s → s .entry ≡ Empty → AllPlaced text (drop i (take count (drop first slots))) → ⊥
+  not-empty s z e k =
+      let f : AllPlaced text (s ∷ drop (i + 1) (take count (drop first slots))) = rw (slot-next, z) at k in
+      let g : PlacedEntry text Empty (s .place) (s .len) = rw e at (f .0) in
+      g
 
 -- behind the last slot of a row there is no entry
 pub slots-done : (text : List ℕ) (l : List Slot) (count i : ℕ) → count ≤ i → slotsBytes text (drop i (take count l)) ≡ []

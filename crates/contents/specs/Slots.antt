@@ -11,10 +11,10 @@ use Rattle.ast.specs.Job.{Map}
 use Rattle.object.specs.declared.License.{License}
 use Rattle.object.specs.declared.License.the-variants.{Gpl, Text}
 use Rattle.object.specs.declared.Entry.{Entry}
-use Rattle.object.specs.declared.Entry.the-variants.{Empty, At}
+use Rattle.object.specs.declared.Entry.the-variants.{Empty, Taken}
 use Rattle.object.specs.declared.Slot.{Slot}
 use Rattle.object.specs.Read.{bytesAt}
-use Rattle.object.specs.Kept.{ResolvedEntry}
+use Rattle.object.specs.Kept.{ResolvedSlot}
 
 -- This is how many bytes the licence has, without its zero byte. A job with no licence frame has the licence GPL.
 abbrev pub licenceLen : License → ℕ
@@ -23,27 +23,33 @@ licenceLen (Text n) = n .len
 
 -- A slot gives one entry: its offset stands in the text, and its map's symbol follows the null symbol, LICENSE and the maps before it. An
 -- empty slot gives none.
-abbrev pub slotBytes : List ℕ → Entry → List ℕ
-slotBytes text Empty = []
-slotBytes text (At place len map) = relBytes (value (bytesAt text place 8)) (2 + map)
+abbrev pub entryBytes : List ℕ → Entry → ℕ → ℕ → List ℕ
+entryBytes text Empty place map = []
+entryBytes text Taken place map = relBytes (value (bytesAt text place 8)) (2 + map)
+
+abbrev pub slotBytes : List ℕ → Slot → List ℕ
+slotBytes text s = entryBytes text (s .entry) (s .place) (s .map)
 
 -- Slots in a row give their entries in the same order.
 abbrev pub slotsBytes : List ℕ → List Slot → List ℕ
 slotsBytes text [] = []
-slotsBytes text (s ∷ ss) = slotBytes text (s .entry) ++ slotsBytes text ss
+slotsBytes text (s ∷ ss) = slotBytes text s ++ slotsBytes text ss
 
 -- A slot is placed when its offset stands in the text in hexadecimal, and the map's name behind it lies in the text too. An empty slot is
 -- not placed, so that a writer never meets one.
-abbrev pub PlacedSlot : List ℕ → Entry → Type 0
-PlacedSlot text Empty = ⊥
-PlacedSlot text (At place len map) = (place + 16 + 2 * len ≤ length text) × (isHex (take 16 (drop place text)) ≡ true)
+abbrev pub PlacedEntry : List ℕ → Entry → ℕ → ℕ → Type 0
+PlacedEntry text Empty place len = ⊥
+PlacedEntry text Taken place len = (place + 16 + 2 * len ≤ length text) × (isHex (take 16 (drop place text)) ≡ true)
+
+abbrev pub PlacedSlot : List ℕ → Slot → Type 0
+PlacedSlot text s = PlacedEntry text (s .entry) (s .place) (s .len)
 
 -- Every slot of a row is placed.
 abbrev pub AllPlaced : List ℕ → List Slot → Type 0
 AllPlaced text [] = Unit
-AllPlaced text (s ∷ ss) = PlacedSlot text (s .entry) × AllPlaced text ss
+AllPlaced text (s ∷ ss) = PlacedSlot text s × AllPlaced text ss
 
 -- Every slot of a row is resolved: it is placed, and its map is the last one of the name that stands there.
 abbrev pub AllResolved : List ℕ → List Map → List Slot → Type 0
 AllResolved text ms [] = Unit
-AllResolved text ms (s ∷ ss) = ResolvedEntry text ms (s .entry) × AllResolved text ms ss
+AllResolved text ms (s ∷ ss) = ResolvedSlot text ms s × AllResolved text ms ss

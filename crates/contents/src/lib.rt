@@ -74,10 +74,10 @@ pub fn put_rels(out: &mut [u8], text: &[u8], slots: [Slot; 256], first: usize, c
     while i < count {
         let slot = slots[first + i];
         let entry = slot.entry;
-        let Entry::At { place, len: _, map } = entry else {
+        let Entry::Taken = entry else {
             return;
         };
-        put_slot(&mut out[at..at + 16], text, place as usize, map);
+        put_slot(&mut out[at..at + 16], text, slot.place as usize, slot.map);
         at += 16;
         i += 1;
     }

@@ -2,4 +2,5 @@ pub mod Lines
 pub mod Walking
 pub mod Body
 pub mod Steps
+pub mod Ending
 pub mod Single

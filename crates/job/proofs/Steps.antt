@@ -21,15 +21,14 @@ use Rattle.ast.specs.Job.{Map, Relocation, Job}
 use Rattle.ast.specs.Job as job
 use Rattle.ast.specs.declared.Name.{Name}
 use Rattle.ast.specs.declared.MapDecl.{MapDecl}
-use Rattle.object.specs.declared.Entry.{Entry}
 use Rattle.object.specs.declared.Slot.{Slot}
 use Rattle.object.specs.declared.Program.{Program}
 use Rattle.object.specs.declared.BpfObject.{BpfObject}
 use Rattle.object.specs.declared.Added.{Added}
 use Rattle.object.specs.declared.Adding.the-variants.{Done}
 use Rattle.object.specs.Tables.{emptySlot, Sound, done, withLicense, withMap, addedMap, withProgram}
-use Rattle.object.specs.Read.{nameIn, entryIn, relocationsIn, frameCode, lineCode, codeOf, body, programIn, programsIn, declaredMaps, jobIn}
-use Rattle.object.specs.Kept.{Named, ResolvedEntry, AllFrames, ProgramKept, AllKept, Kept}
+use Rattle.object.specs.Read.{nameIn, slotIn, relocationsIn, frameCode, lineCode, codeOf, body, programIn, programsIn, declaredMaps, jobIn}
+use Rattle.object.specs.Kept.{Named, ResolvedSlot, AllFrames, ProgramKept, AllKept, Kept}
 use Rattle.object.proofs.Programs.{take-next, drop-next, part-more, code-snoc, frames-snoc, relocations-snoc, programs-snoc, programs-kept, kept-more, kept-snoc}
 use Rattle.refusals.specs.Checked.{Stage, takeBytes, takeLines, empty, went, accepted, advance, declare, onLast, withCode, withRelocation}
 use Rattle.lookup.specs.Names.{Names}
@@ -208,10 +207,10 @@ module _ (text : List ℕ) (o : BpfObject) (opened : ℕ) (p : Program) (n at en
                 relocations = relocationsIn text (take (p .relocs) (drop (p .first) (o .slots)));
               }
 
-  pub reloc-on : (x : Entry)
+  pub reloc-on : (x : Slot)
       → takeBytes (stageIn text o opened p n) (lineBytes text at end)
-      ≡ went (advance (relocation (entryIn text x .offset) (entryIn text x .map)) (stageIn text o opened p n))
-      → ResolvedEntry text (declaredMaps text o) x → o .«reloc_count» < 256 → 0 < length (stageIn text o opened p n .job .programs)
+      ≡ went (advance (relocation (slotIn text x .offset) (slotIn text x .map)) (stageIn text o opened p n))
+      → ResolvedSlot text (declaredMaps text o) x → o .«reloc_count» < 256 → 0 < length (stageIn text o opened p n .job .programs)
       → frameCode (frameOf (lineBytes text at end)) ≡ [] → Walking text (withSlot o x) opened (relocAdded p) (n + 1) (end + 1)
   reloc-on x e r few h c =
       let i = is-open h in
@@ -229,7 +228,7 @@ module _ (text : List ℕ) (o : BpfObject) (opened : ℕ) (p : Program) (n at en
                     ats = s .ats;
                     lens = s .lens;
                     programs = s .programs;
-                    slots = length-set (o .slots) (o .«reloc_count») slot ∙ s .slots;
+                    slots = length-set (o .slots) (o .«reloc_count») x ∙ s .slots;
                     few-maps = s .few-maps;
                     few-programs = s .few-programs;
                     few-slots = omega arith;
@@ -256,40 +255,37 @@ module _ (text : List ℕ) (o : BpfObject) (opened : ℕ) (p : Program) (n at en
         counted = omega (arith, w .counted, next .framed .first);
         early = omega (arith, w .early);
         whole =
-            taken text o opened p n at end w next (relocation (entryIn text x .offset) (entryIn text x .map)) (withSlot o x) opened (relocAdded p) e (rw i (job-reloc q z (omega (arith, s .slots)))) refl;
+            taken text o opened p n at end w next (relocation (slotIn text x .offset) (slotIn text x .map)) (withSlot o x) opened (relocAdded p) e (rw i (job-reloc q z (omega (arith, s .slots)))) refl;
       }
     where
-      slot : Slot
-      slot = record { entry = x }
-
-      resolved : o .«reloc_count» < length (o .slots) → ResolvedEntry text (declaredMaps text o) x → (i : ℕ) → i < o .«reloc_count» + 1
-          → ResolvedEntry text (declaredMaps text o) (getD (set (o .slots) (o .«reloc_count») slot) i emptySlot .entry)
+      resolved : o .«reloc_count» < length (o .slots) → ResolvedSlot text (declaredMaps text o) x → (i : ℕ) → i < o .«reloc_count» + 1
+          → ResolvedSlot text (declaredMaps text o) (getD (set (o .slots) (o .«reloc_count») x) i emptySlot)
       resolved l r i h = go (eqb i (o .«reloc_count»)) refl
         where
-          go : (t : Bool) → eqb i (o .«reloc_count») ≡ t → ResolvedEntry text (declaredMaps text o) (getD (set (o .slots) (o .«reloc_count») slot) i emptySlot .entry)
-          go true t = let e : i ≡ o .«reloc_count» = eqb-true i (o .«reloc_count») t in rw (e, getD-set-same (o .slots) (o .«reloc_count») slot emptySlot l) r
+          go : (t : Bool) → eqb i (o .«reloc_count») ≡ t → ResolvedSlot text (declaredMaps text o) (getD (set (o .slots) (o .«reloc_count») x) i emptySlot)
+          go true t = let e : i ≡ o .«reloc_count» = eqb-true i (o .«reloc_count») t in rw (e, getD-set-same (o .slots) (o .«reloc_count») x emptySlot l) r
           go false t =
               let f = eqb-false i (o .«reloc_count») t in
-              rw (getD-set-other (o .slots) (o .«reloc_count») i slot emptySlot f) (w .kept .slots i (omega (arith, f)))
+              rw (getD-set-other (o .slots) (o .«reloc_count») i x emptySlot f) (w .kept .slots i (omega (arith, f)))
 
       -- the open program with the relocation
       program-reloc : Opened text o p at → codeOf (body text (p .from) (p .lines + 1)) ≡ codeOf (body text (p .from) (p .lines)) → o .«reloc_count» < length (o .slots)
-          → programIn text (set (o .slots) (o .«reloc_count») slot) (relocAdded p)
-          ≡ withRelocation (record { offset = entryIn text x .offset; map = entryIn text x .map }) (programIn text (o .slots) p)
+          → programIn text (set (o .slots) (o .«reloc_count») x) (relocAdded p)
+          ≡ withRelocation (record { offset = slotIn text x .offset; map = slotIn text x .map }) (programIn text (o .slots) p)
       program-reloc q z l =
-          let t : take (p .relocs + 1) (drop (p .first) (set (o .slots) (p .first + p .relocs) slot)) ≡ take (p .relocs) (drop (p .first) (o .slots)) ++ (slot ∷ []) =
-          rw (add-one (p .relocs)) (part-more (o .slots) (p .first) (p .relocs) slot (omega (arith, q .slots))) in
-          rw (← q .slots, t, relocations-snoc text (take (p .relocs) (drop (p .first) (o .slots))) slot, z)
+          let t : take (p .relocs + 1) (drop (p .first) (set (o .slots) (p .first + p .relocs) x)) ≡ take (p .relocs) (drop (p .first) (o .slots)) ++ (x ∷ []) =
+          rw (add-one (p .relocs)) (part-more (o .slots) (p .first) (p .relocs) x (omega (arith, q .slots))) in
+          rw (← q .slots, t, relocations-snoc text (take (p .relocs) (drop (p .first) (o .slots))) x, z)
 
       job-reloc : Opened text o p at → codeOf (body text (p .from) (p .lines + 1)) ≡ codeOf (body text (p .from) (p .lines)) → o .«reloc_count» < length (o .slots)
-          → declare (relocation (entryIn text x .offset) (entryIn text x .map)) (stageIn text o 1 p n .job) ≡ stageIn text (withSlot o x) 1 (relocAdded p) (n + 1) .job
+          → declare (relocation (slotIn text x .offset) (slotIn text x .map)) (stageIn text o 1 p n .job) ≡ stageIn text (withSlot o x) 1 (relocAdded p) (n + 1) .job
       job-reloc q z l =
           let ps = take (o .«program_count») (o .programs) in
-          let f = withRelocation (record { offset = entryIn text x .offset; map = entryIn text x .map }) in
+          let f = withRelocation (record { offset = slotIn text x .offset; map = slotIn text x .map }) in
           ap (with-programs text o)
           (on-last f (programsIn text (o .slots) ps) (programIn text (o .slots) p)
-          ∙ ap (λ (y : List job.Program). y ++ (f (programIn text (o .slots) p) ∷ [])) (sym (programs-kept text (o .slots) (o .«reloc_count») slot ps (w .kept .programs)))
-          ∙ ap (λ (y : job.Program). programsIn text (set (o .slots) (o .«reloc_count») slot) ps ++ (y ∷ [])) (sym (program-reloc q z l)))
+          ∙ ap (λ (y : List job.Program). y ++ (f (programIn text (o .slots) p) ∷ [])) (sym (programs-kept text (o .slots) (o .«reloc_count») x ps (w .kept .programs)))
+          ∙ ap (λ (y : job.Program). programsIn text (set (o .slots) (o .«reloc_count») x) ps ++ (y ∷ [])) (sym (program-reloc q z l)))
 
   -- the open program's numbers have room for a line more
   pub line-room : 0 < length (stageIn text o opened p n .job .programs) → p .lines < 65535

@@ -19,13 +19,12 @@ use Rattle.ast.specs.Job.{Map, Job}
 use Rattle.ast.specs.Job as job
 use Rattle.ast.specs.declared.Name.{Name}
 use Rattle.ast.specs.declared.MapDecl.{MapDecl}
-use Rattle.object.specs.declared.Entry.{Entry}
 use Rattle.object.specs.declared.Slot.{Slot}
 use Rattle.object.specs.declared.Program.{Program}
 use Rattle.object.specs.declared.BpfObject.{BpfObject}
 use Rattle.object.specs.Tables.{noProgram, emptySlot, emptyObject, Sound, withMap, withProgram, withLicense}
-use Rattle.object.specs.Read.{nameIn, mapIn, mapsIn, entryIn, relocationsIn, frameCode, lineCode, codeOf, body, programIn, programsIn, declaredMaps, jobIn}
-use Rattle.object.specs.Kept.{Named, ResolvedEntry, AllFrames, ProgramKept, AllKept, Kept}
+use Rattle.object.specs.Read.{nameIn, mapIn, mapsIn, slotIn, relocationsIn, frameCode, lineCode, codeOf, body, programIn, programsIn, declaredMaps, jobIn}
+use Rattle.object.specs.Kept.{Named, ResolvedSlot, AllFrames, ProgramKept, AllKept, Kept}
 use Rattle.object.proofs.Read.{maps-set, count-maps}
 use Rattle.object.proofs.Programs.{take-next, drop-next, part-more, code-snoc, frames-snoc, relocations-snoc, programs-snoc, programs-length, programs-kept, kept-more, kept-snoc}
 use Rattle.refusals.specs.Checked.{Stage, takeBytes, takeLines, empty, went, advance, declare, counts, onLast, withCode, withRelocation}

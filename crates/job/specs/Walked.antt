@@ -23,7 +23,6 @@ use Rattle.refusals.specs.declared.Refusal.the-variants as refusal
 use Rattle.object.specs.declared.Adding.{Adding}
 use Rattle.object.specs.declared.Adding.the-variants as adding
 use Rattle.ast.specs.Job as job
-use Rattle.object.specs.declared.Entry.{Entry}
 use Rattle.object.specs.declared.Slot.{Slot}
 use Rattle.object.specs.Read.{licenceIn, declaredMaps, programIn, programsIn, jobIn}
 use Rattle.object.specs.Kept.{Kept}
@@ -56,7 +55,7 @@ abbrev pub Saying : List ℕ → ℕ → Stage → Verdict → ℕ → Type 0
 Saying text at s (verdict.Refused r) end = takeLines s (lines (drop at text)) ≡ faulty (numberOf r) (lineOf r)
 Saying text at s (verdict.Declares d) end = Next text at end × Judged text s (lineBytes text at end) (verdict.Declares d)
 Saying text at s (verdict.Code n) end = Next text at end × Judged text s (lineBytes text at end) (verdict.Code n)
-Saying text at s (verdict.Reloc e) end = Next text at end × Judged text s (lineBytes text at end) (verdict.Reloc e)
+Saying text at s (verdict.Reloc x) end = Next text at end × Judged text s (lineBytes text at end) (verdict.Reloc x)
 
 abbrev pub countsOf : ℕ → ℕ → ℕ → ℕ → Counts
 countsOf lines maps programs relocs = record { lines = lines; maps = maps; programs = programs; relocs = relocs }
@@ -101,8 +100,8 @@ closedObject o zero p = o
 closedObject o (suc k) p = withProgram o p
 
 -- the object with one relocation more
-abbrev pub withSlot : BpfObject → Entry → BpfObject
-withSlot o e =
+abbrev pub withSlot : BpfObject → Slot → BpfObject
+withSlot o x =
     record {
       license = o .license;
       maps = o .maps;
@@ -111,7 +110,7 @@ withSlot o e =
       «map_count» = o .«map_count»;
       programs = o .programs;
       «program_count» = o .«program_count»;
-      slots = set (o .slots) (o .«reloc_count») (record { entry = e });
+      slots = set (o .slots) (o .«reloc_count») x;
       «reloc_count» = o .«reloc_count» + 1;
     }
 
@@ -146,19 +145,26 @@ stageIn text o opened p n =
 
 -- ---- the answer
 
-abbrev pub refusedWith : Refusal → BpfObject → Parsed
-refusedWith r o = record { answer = parsing.Refused r; object = o }
-
--- the answer at the end of the text; a table that is full is refused, which the walk's counts rule out
+-- what a step leads to; a table that is full is refused, which the walk's counts rule out
 abbrev pub endedAs : Adding → ℕ → Parsing
 endedAs adding.Done count = parsing.Accepted
 endedAs adding.Full count = parsing.Refused (refusal.OverLimit count)
 
-abbrev pub finishedWith : Added → ℕ → Parsed
-finishedWith a count = record { answer = endedAs (a .answer) count; object = a .object }
+-- where the walk goes on: at `next`, or, refused, at the text's end
+abbrev pub onFrom : Parsing → ℕ → ℕ → ℕ
+onFrom parsing.Accepted next end = next
+onFrom (parsing.Refused r) next end = end
 
-abbrev pub finishedOf : BpfObject → ℕ → Program → ℕ → Parsed
-finishedOf o opened p count = finishedWith (closedOf o opened p) count
+-- the answer at the end of the text: the refusal that ended the walk, or what closing the open program leads to
+abbrev pub lastAnswer : Parsing → Adding → ℕ → Parsing
+lastAnswer parsing.Accepted step count = endedAs step count
+lastAnswer (parsing.Refused r) step count = parsing.Refused r
+
+abbrev pub finishedWith : Added → ℕ → Parsing → Parsed
+finishedWith a count answer = record { answer = lastAnswer answer (a .answer) count; object = a .object }
+
+abbrev pub finishedOf : BpfObject → ℕ → Program → ℕ → Parsing → Parsed
+finishedOf o opened p count answer = finishedWith (closedOf o opened p) count answer
 
 -- the answer as the definition has it: the tables read as a job, or the refusal's number and line
 abbrev pub parsingIn : List ℕ → Parsing → BpfObject → Checked

@@ -6,7 +6,7 @@ ghost use lib.ListN.{length};
 ghost use Rattle.object.specs.Tables.{Sound};
 ghost use Rattle.refusals.specs.Checked.{Stage, takeLines, empty, checked};
 ghost use Rattle.lines.specs.Lines.{lines};
-ghost use Rattle.job.specs.Walked.{LineSays, openedAt, codeAdded, relocAdded, closedOf, builtOf, builtWith, refusedWith, endedAs, finishedOf, countsOf, Saying, parsedIn, ParsedKept};
+ghost use Rattle.job.specs.Walked.{LineSays, openedAt, codeAdded, relocAdded, closedOf, builtOf, builtWith, endedAs, onFrom, lastAnswer, finishedOf, countsOf, Saying, parsedIn, ParsedKept};
 ghost use Rattle.lookup.specs.Names.{Names};
 ghost use Rattle.judge.specs.Judged.{Agrees, Held};
 use ast::Name;
@@ -19,7 +19,6 @@ use object::Added;
 use object::Adding;
 use object::BpfObject;
 use object::Program;
-use object::Slot;
 use refusals::Refusal;
 
 // What a line says: a frame and where the line ends, or that it is no line of the format.
@@ -50,7 +49,7 @@ struct Said {
     end: usize,
 }
 
-fn say<'a>(text: &[u8], ats: &'a [u16], lens: &'a [u8], at: usize, counts: Counts) -> Said
+fn say<'a>(text: &[u8], ats: &'a [u16], lens: &'a [u16], at: usize, counts: Counts) -> Said
     requires { ⌜ length (now text) ≤ 65535 ⌝ }
     requires { ⌜ at < length (now text) ⌝ }
     requires { ⌜ counts .lines < 65536 ⌝ }
@@ -193,16 +192,28 @@ pub struct Parsed {
     pub object: BpfObject,
 }
 
-fn refused(refusal: Refusal, object: BpfObject) -> Parsed
-    ensures { λ r. ⌜ r ≡ refusedWith refusal object ⌝ }
+// What a step leads to: the walk goes on, or a full table is refused.
+fn ended(answer: Adding, count: usize) -> Parsing
+    ensures { λ r. ⌜ r ≡ endedAs answer count ⌝ }
 {
-    Parsed {
-        answer: Parsing::Refused(refusal),
-        object,
-    }
+    let Adding::Done = answer else {
+        return Parsing::Refused(Refusal::OverLimit(count));
+    };
+    Parsing::Accepted
 }
 
-// The lines of a text one after the other, up to the first that is refused.
+// Where the walk goes on: at `next`, or, refused, at the text's end, where no line is left.
+fn on_from(answer: Parsing, next: usize, end: usize) -> usize
+    ensures { λ r. ⌜ r ≡ onFrom answer next end ⌝ }
+{
+    let Parsing::Accepted = answer else {
+        return end;
+    };
+    next
+}
+
+// The lines of a text one after the other, up to the first that is refused. A refusal ends the walk by going to the text's end: there is one
+// way out, since the tables are copied for each.
 fn walk(text: &[u8]) -> Parsed
     requires { ⌜ length (now text) ≤ 65535 ⌝ }
     ensures { λ r. ⌜ parsedIn (now (text .entry)) r ≡ takeLines empty (lines (now (text .entry))) ⌝ }
@@ -213,6 +224,7 @@ fn walk(text: &[u8]) -> Parsed
     let mut opened = 0;
     let mut count = 0;
     let mut at = 0;
+    let mut answer = Parsing::Accepted;
     while at < text.len() {
         let programs = object.program_count + opened;
         let counts = counts_of(count, object.map_count, programs, object.reloc_count);
@@ -223,50 +235,56 @@ fn walk(text: &[u8]) -> Parsed
         match verdict {
             Verdict::Declares(declaration) => {
                 let built = build(object, opened, program, declaration, at);
-                let answer = built.answer;
+                let step = built.answer;
+                answer = ended(step, count);
                 object = built.object;
                 program = built.program;
                 opened = built.opened;
-                let Adding::Done = answer else {
-                    return refused(Refusal::OverLimit(count), object);
-                };
+                at = on_from(answer, at, text.len());
             }
             Verdict::Code(n) => {
                 program = add_code(program, n);
             }
-            Verdict::Reloc(entry) => {
+            Verdict::Reloc(slot) => {
                 let n = object.reloc_count;
-                object.slots[n] = Slot { entry };
+                object.slots[n] = slot;
                 object.reloc_count = n + 1;
                 program = add_reloc(program);
             }
             Verdict::Refused(refusal) => {
-                return refused(refusal, object);
+                answer = Parsing::Refused(refusal);
+                at = text.len();
             }
         }
     }
-    finish(object, opened, program, count)
+    finish(object, opened, program, count, answer)
 }
 
-// What the end of the text gives: the job is accepted where the open program found its place.
-fn ended(answer: Adding, count: usize) -> Parsing
-    ensures { λ r. ⌜ r ≡ endedAs answer count ⌝ }
+// The answer at the end of the text: the refusal that ended the walk, or what closing the open program leads to.
+fn last_answer(answer: Parsing, step: Adding, count: usize) -> Parsing
+    ensures { λ r. ⌜ r ≡ lastAnswer answer step count ⌝ }
 {
-    let Adding::Done = answer else {
-        return Parsing::Refused(Refusal::OverLimit(count));
+    let Parsing::Accepted = answer else {
+        return answer;
     };
-    Parsing::Accepted
+    ended(step, count)
 }
 
-// The end of the text: the open program is added, and the job is accepted. There is one end, since the tables are copied for each.
-fn finish(object: BpfObject, opened: usize, program: Program, count: usize) -> Parsed
+// The end of the text: the open program is added, and the job is accepted where no line was refused. There is one way out here too.
+fn finish(
+    object: BpfObject,
+    opened: usize,
+    program: Program,
+    count: usize,
+    answer: Parsing,
+) -> Parsed
     requires { ⌜ Sound object ⌝ }
-    ensures { λ r. ⌜ r ≡ finishedOf object opened program count ⌝ }
+    ensures { λ r. ⌜ r ≡ finishedOf object opened program count answer ⌝ }
 {
     let closed = close(object, opened, program);
     let step = closed.answer;
     let object = closed.object;
-    let answer = ended(step, count);
+    let answer = last_answer(answer, step, count);
     Parsed { answer, object }
 }
 
@@ -276,7 +294,10 @@ pub fn parse(text: &[u8]) -> Parsed
     ensures { λ r. ⌜ ParsedKept (now (text .entry)) r ⌝ }
 {
     if 65535 < text.len() {
-        return refused(Refusal::TooLong, BpfObject::new());
+        return Parsed {
+            answer: Parsing::Refused(Refusal::TooLong),
+            object: BpfObject::new(),
+        };
     }
     walk(text)
 }

@@ -23,7 +23,8 @@ use Rattle.ast.specs.declared.TypeAttr.{TypeAttr}
 use Rattle.ast.specs.declared.CountAttr.{CountAttr}
 use Rattle.frames.specs.Frames.{Frame, licence, mapDecl, program, code, relocation, frameOf}
 use Rattle.object.specs.Tables.{noMap}
-use Rattle.object.specs.Read.{bytesAt, nameIn, mapsIn, entryIn, frameCode}
+use Rattle.object.specs.Read.{bytesAt, nameIn, mapsIn, entryIn, slotIn, frameCode}
+use Rattle.object.specs.Kept.{ResolvedEntry}
 use Rattle.object.specs.declared.Entry.{Entry}
 use Rattle.object.specs.declared.Entry.the-variants as entry
 use Rattle.object.proofs.Read.{count-maps}
@@ -49,7 +50,7 @@ use Rattle.judge.proofs.judge_frame.Reads as judge-frame
 abbrev told : List ℕ → Stage → List ℕ → Verdict → Step
 told text s bs (Declares d) = went (advance (declarationFrame text d) s)
 told text s bs (Code n) = went (advance (code (frameCode (frameOf bs))) s)
-told text s bs (Reloc e) = went (advance (relocation (entryIn text e .offset) (entryIn text e .map)) s)
+told text s bs (Reloc x) = went (advance (relocation (slotIn text x .offset) (slotIn text x .map)) s)
 told text s bs (Refused r) = stopped (numberOf r)
 
 -- it tells what the table does
@@ -65,14 +66,14 @@ data Meaning : Type 0 where
   takes : Frame → ℕ → Meaning
   refuses : Refusal → Meaning
 
-abbrev mapNumber : Entry → ℕ
-mapNumber entry.Empty = 0
-mapNumber (entry.At place len number) = number
+abbrev mapNumber : Entry → ℕ → ℕ
+mapNumber entry.Empty number = 0
+mapNumber entry.Taken number = number
 
 abbrev meant : List ℕ → List ℕ → Verdict → Meaning
 meant text bs (Declares d) = takes (declarationFrame text d) 0
 meant text bs (Code n) = takes (code (frameCode (frameOf bs))) n
-meant text bs (Reloc e) = takes (relocation (entryIn text e .offset) (entryIn text e .map)) (mapNumber e)
+meant text bs (Reloc x) = takes (relocation (slotIn text x .offset) (slotIn text x .map)) (mapNumber (x .entry) (x .map))
 meant text bs (Refused r) = refuses r
 
 -- ---- the meaning of a verdict, read back from the stages before and behind the line
@@ -209,6 +210,12 @@ module _ (bs : List ℕ) (s : Stage) where
   back-frame : (f : Frame) (n : ℕ) → undo (advance f s) ≡ f → extra f ≡ n → back (went (advance f s)) ≡ takes f n
   back-frame f n e q = rw (e, q)
 
+  back-slot : (text : List ℕ) (x : Entry) (place len number : ℕ) → ResolvedEntry text (s .job .maps) x place len number → 0 < length (s .job .programs)
+      → let r = entryIn text x place len in back (went (advance (relocation (r .offset) (r .map)) s)) ≡ takes (relocation (r .offset) (r .map)) (mapNumber x number)
+  back-slot text entry.Empty place len number r h = absurd r
+  back-slot text entry.Taken place len number r h =
+      back-frame _ number (undo-relocation (value (bytesAt text place 8)) (bytesAt text (place + 16) len) h) (ap foundAt (r .last))
+
   -- what a verdict tells gives back what it means, where the stage's licence is longer than any that the verdict declares
   back-told : (text : List ℕ) (r : Verdict) → Judged text s bs r → length (licenceOf text r) < length (s .job .licence)
       → back (told text s bs r) ≡ meant text bs r
@@ -217,9 +224,7 @@ module _ (bs : List ℕ) (s : Stage) where
       back-frame _ 0 (undo-map (d .«map_type») (d .«key_type») (d .«value_type») (d .«max_entries») (nameIn text n)) refl
   back-told text (Declares (declaration.Program a b)) j h = back-frame _ 0 (undo-program (nameIn text a) (nameIn text b)) refl
   back-told text (Code n) j h = back-frame _ n undo-code (j .1)
-  back-told text (Reloc entry.Empty) j h = absurd (j .1)
-  back-told text (Reloc (entry.At place len number)) j h =
-      back-frame _ number (undo-relocation (value (bytesAt text place 8)) (bytesAt text (place + 16) len) (j .3)) (ap foundAt (j .1 .last))
+  back-told text (Reloc x) j h = back-slot text (x .entry) (x .place) (x .len) (x .map) (j .1) (j .3)
   back-told text (Refused r) j h = ap refuses (refusal-is r (s .lines) (j .1))
 
 -- ---- the promise is about every stage that the counts count, and there is one with any licence

@@ -10,8 +10,8 @@ use Rattle.frames.specs.Frames.{Frame, licence, mapDecl, program, code, relocat
 use Rattle.ast.specs.declared.Name.{Name}
 use Rattle.ast.specs.declared.MapDecl.{MapDecl}
 use Rattle.octets.specs.Octets.{value}
-use Rattle.object.specs.Read.{nameIn, mapsIn, entryIn, frameCode}
-use Rattle.object.specs.Kept.{Named, ResolvedEntry}
+use Rattle.object.specs.Read.{nameIn, mapsIn, slotIn, frameCode}
+use Rattle.object.specs.Kept.{Named, ResolvedSlot}
 use Rattle.refusals.specs.Checked.{Stage, takeBytes, went, stopped, advance}
 use Rattle.refusals.specs.Refusal.{numberOf, lineOf}
 use Rattle.judge.specs.declared.Counts.{Counts}
@@ -80,7 +80,7 @@ Judged text s bs (verdict.Declares d) = (takeBytes s bs ≡ went (advance (decla
 Judged text s bs (verdict.Code n) =
     (takeBytes s bs ≡ went (advance (code (frameCode (frameOf bs))) s)) × (length (frameCode (frameOf bs)) ≡ n)
     × (0 < length (s .job .programs)) × (n ≤ length bs)
-Judged text s bs (verdict.Reloc e) =
-    (takeBytes s bs ≡ went (advance (relocation (entryIn text e .offset) (entryIn text e .map)) s))
-    × ResolvedEntry text (s .job .maps) e × (s .relocations < 256) × (0 < length (s .job .programs)) × (frameCode (frameOf bs) ≡ [])
+Judged text s bs (verdict.Reloc x) =
+    (takeBytes s bs ≡ went (advance (relocation (slotIn text x .offset) (slotIn text x .map)) s))
+    × ResolvedSlot text (s .job .maps) x × (s .relocations < 256) × (0 < length (s .job .programs)) × (frameCode (frameOf bs) ≡ [])
 Judged text s bs (verdict.Refused r) = (takeBytes s bs ≡ stopped (numberOf r)) × (lineOf r ≡ suc (s .lines))

@@ -16,6 +16,7 @@ use flaws::Fault;
 use frames::Frame;
 use lookup::Found;
 use object::Entry;
+use object::Slot;
 use refusals::Refusal;
 
 // How much there is before a frame: lines, maps, programs with the open one, relocations.
@@ -37,7 +38,7 @@ pub enum Declaration {
 pub enum Verdict {
     Declares(Declaration),
     Code(usize),
-    Reloc(Entry),
+    Reloc(Slot),
     Refused(Refusal),
 }
 
@@ -50,7 +51,7 @@ fn name_at(from: usize, end: usize) -> Name
 {
     Name {
         at: from as u16,
-        len: ((end - from) / 2) as u8,
+        len: ((end - from) / 2) as u16,
     }
 }
 
@@ -141,7 +142,7 @@ fn judge_code(n: usize, counts: Counts) -> Verdict
 fn judge_relocation<'a>(
     text: &[u8],
     ats: &'a [u16],
-    lens: &'a [u8],
+    lens: &'a [u16],
     at: usize,
     end: usize,
     counts: Counts,
@@ -168,9 +169,10 @@ fn judge_relocation<'a>(
     match fault {
         Fault::Is(r) => Verdict::Refused(r),
         Fault::Nothing => match lookup::find_map(text, ats, lens, maps, &text[from..end]) {
-            Found::At(map) => Verdict::Reloc(Entry::At {
+            Found::At(map) => Verdict::Reloc(Slot {
+                entry: Entry::Taken,
                 place: (at + 2) as u16,
-                len: ((end - from) / 2) as u8,
+                len: ((end - from) / 2) as u16,
                 map: map as u8,
             }),
             Found::Nothing => Verdict::Refused(Refusal::UnknownMap(line)),
@@ -182,7 +184,7 @@ fn judge_relocation<'a>(
 pub fn judge_frame<'a>(
     text: &[u8],
     ats: &'a [u16],
-    lens: &'a [u8],
+    lens: &'a [u16],
     at: usize,
     end: usize,
     frame: Frame,

@@ -11,7 +11,13 @@ pub enum Found {
 }
 
 // The last of `count` maps whose raw name is `name`. Equal names have equal text, since only lower-case digits pass.
-pub fn find_map<'a>(text: &[u8], ats: &'a [u16], lens: &'a [u8], count: usize, name: &[u8]) -> Found
+pub fn find_map<'a>(
+    text: &[u8],
+    ats: &'a [u16],
+    lens: &'a [u16],
+    count: usize,
+    name: &[u8],
+) -> Found
     requires { ⌜ isHex (now name) ≡ true ⌝ }
     requires { ⌜ Names (now text) (now ats) (now lens) count ⌝ }
     ensures { λ r. ⌜ Finds (now (text .entry)) (now (ats .entry)) (now (lens .entry)) count (bytesIn (now (name .entry))) r ⌝ }

@@ -27,7 +27,7 @@ struct Weighed {
 }
 
 // The sizes of the sections whose contents are not counted in the tables themselves.
-fn weigh<'a>(text: &[u8], object: BpfObject, ats: &'a [u16], lens: &'a [u8]) -> Weighed
+fn weigh<'a>(text: &[u8], object: BpfObject, ats: &'a [u16], lens: &'a [u16]) -> Weighed
     requires { ⌜ Lent (now text) object (now ats) (now lens) ⌝ }
     ensures { λ r. ⌜ SizesOf (jobIn (now (text .entry)) object) (r .sizes) ⌝ }
     ensures { λ r. ⌜ Small (r .sizes) ⌝ }
@@ -58,7 +58,7 @@ fn write<'a>(
     rows: &[u8],
     object: BpfObject,
     ats: &'a [u16],
-    lens: &'a [u8],
+    lens: &'a [u16],
     measured: Measured,
     sizes: Sizes,
     types: usize,
@@ -128,9 +128,8 @@ pub fn make(job: &[u8], out: &mut [u8]) -> Making
 {
     let parsed = job::parse(job);
     let answer = parsed.answer;
-    let object = parsed.object;
     match answer {
-        Parsing::Accepted => build(job, out, object),
+        Parsing::Accepted => build(job, out, parsed.object),
         Parsing::Refused(refusal) => Making::Refused(refusal),
     }
 }

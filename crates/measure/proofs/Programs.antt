@@ -14,9 +14,10 @@ use Rattle.elf.specs.Elf.{Section}
 use Rattle.elf.specs.declared.Section as code
 use Rattle.object.specs.declared.Program.{Program}
 use Rattle.object.specs.Object.{plain, relSections, past, programSections, relocationBytes}
+use Rattle.object.specs.Kept.{AllKept}
 use Rattle.object.proofs.Counts.{length-relocations}
 use Rattle.measure.specs.declared.Measuring.{Measuring}
-use Rattle.measure.specs.Measured.{withSection, relAt, codeAt, coded, relOf, programmed, programRow, afterPrograms, programRows}
+use Rattle.measure.specs.Measured.{withSection, relAt, codeAt, coded, relOf, programmed, programRow, afterPrograms, programRows, ShortNames}
 use Rattle.measure.proofs.Table.{Rows, rows-on}
 
 -- the programs of a job are those of the tables, as far as measuring goes
@@ -30,6 +31,11 @@ AllSame [] [] = Unit
 AllSame [] (p ∷ ps) = ⊥
 AllSame (j ∷ js) [] = ⊥
 AllSame (j ∷ js) (p ∷ ps) = Same j p × AllSame js ps
+
+-- the names that an accepted job's tables keep are short
+pub short-names : (text : List ℕ) (n : ℕ) (ps : List Program) → AllKept text n ps → ShortNames ps
+short-names text n [] k = tt
+short-names text n (p ∷ ps) k = (k .0 .section .short, short-names text n ps (k .1))
 
 module _ (all : List Section) (ms : List Map) (symtab : ℕ) (rest : List Section) where
   -- the program's own section, and then the REL section by its relocations

@@ -119,10 +119,10 @@ low-front z maps s = go (eqb maps 0)
     go false = low-mapped z s
 
 -- with a program's, whose numbers are those that their types hold
-pub low-coded : {n : ℕ} {m : Measuring} (p : Program) → Low n m → p .«code_len» < 65536 → p .section .len < 256 → Low (suc n) (coded m p)
+pub low-coded : {n : ℕ} {m : Measuring} (p : Program) → Low n m → p .«code_len» < 65536 → p .section .len ≤ 64 → Low (suc n) (coded m p)
 low-coded p l code short = plain-low 1 6 8 (p .«code_len») (p .section .len) l (omega arith) (omega arith) (omega arith) (omega arith)
 
-pub low-programmed : {n : ℕ} {m : Measuring} (symtab : ℕ) (p : Program) → Low n m → p .«code_len» < 65536 → p .section .len < 256 → p .relocs < 65536
+pub low-programmed : {n : ℕ} {m : Measuring} (symtab : ℕ) (p : Program) → Low n m → p .«code_len» < 65536 → p .section .len ≤ 64 → p .relocs < 65536
     → Low (suc (suc n)) (programmed m symtab p)
 low-programmed {n} {m} symtab p l code short few = go (eqb (p .relocs) 0)
   where

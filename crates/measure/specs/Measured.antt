@@ -179,6 +179,11 @@ pub record Small (z : Sizes) : Type 0 where
   pub btf : z .btf ≤ 1000000
   pub strtab : z .strtab ≤ 10000
 
+-- the programs' sections have names of at most 64 bytes
+abbrev pub ShortNames : List Program → Type 0
+ShortNames [] = Unit
+ShortNames (p ∷ ps) = (p .section .len ≤ 64) × ShortNames ps
+
 -- at most `n` sections so far, and numbers that are far below what their types hold
 pub record Low (n : ℕ) (m : Measuring) : Type 0 where
   pub few : m .count ≤ n

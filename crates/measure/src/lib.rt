@@ -10,7 +10,7 @@ ghost use Rattle.elf.specs.Added.{Alignment};
 ghost use Rattle.object.specs.Read.{jobIn};
 ghost use Rattle.object.specs.Kept.{Kept};
 ghost use Rattle.headers.specs.Headers.{headersBytes};
-ghost use Rattle.measure.specs.Measured.{withSection, plainAt, plainOn, relAt, behindAll, begun, Low, front, frontRows, programmed, programRow, afterPrograms, programRows, tabled, tableRows, rowsOf, measuredOf, SizesOf, Small};
+ghost use Rattle.measure.specs.Measured.{withSection, plainAt, plainOn, relAt, behindAll, begun, Low, ShortNames, front, frontRows, programmed, programRow, afterPrograms, programRows, tabled, tableRows, rowsOf, measuredOf, SizesOf, Small};
 use elf::Section;
 use object::BpfObject;
 use object::Program;
@@ -131,7 +131,7 @@ fn begin(table: &mut [u8]) -> Measuring
 fn measure_program(table: &mut [u8], m: Measuring, program: Program, symtab: usize) -> Measuring
     requires { ⌜ Low 68 m ⌝ }
     requires { ⌜ length (now table) ≡ 4544 ⌝ }
-    requires { ⌜ symtab ≤ 68 ⌝ }
+    requires { ⌜ (symtab ≤ 68) × (program .section .len ≤ 64) ⌝ }
     ensures { λ _. ⌜ now (table .exit) ≡ over (now (table .entry)) (64 * m .count) (headersBytes (programRow m symtab program)) ⌝ }
     ensures { λ r. ⌜ r ≡ programmed m symtab program ⌝ }
     ensures { λ r. ⌜ ((n : ℕ) → Low n m → Low (suc (suc n)) r) ⌝ }
@@ -165,7 +165,7 @@ fn measure_programs(
     requires { ⌜ Low 4 start ⌝ }
     requires { ⌜ (count ≤ 32) × (length programs ≡ 32) ⌝ }
     requires { ⌜ length (now table) ≡ 4544 ⌝ }
-    requires { ⌜ symtab ≤ 68 ⌝ }
+    requires { ⌜ (symtab ≤ 68) × ShortNames (take count programs) ⌝ }
     ensures { λ _. ⌜ now (table .exit) ≡ over (now (table .entry)) (64 * start .count) (headersBytes (programRows start symtab (take count programs))) ⌝ }
     ensures { λ r. ⌜ r ≡ afterPrograms start symtab (take count programs) ⌝ }
     ensures { λ r. ⌜ Low (4 + 2 * count) r ⌝ }

@@ -12,7 +12,7 @@ use Rattle.ast.specs.Job.{Relocation}
 use Rattle.ast.specs.Job as job
 use Rattle.object.specs.declared.Slot.{Slot}
 use Rattle.object.specs.declared.Program.{Program}
-use Rattle.object.specs.Read.{entryIn, relocationsIn, lineCode, codeOf, programIn, programsIn}
+use Rattle.object.specs.Read.{slotIn, relocationsIn, lineCode, codeOf, programIn, programsIn}
 use Rattle.object.specs.Kept.{AllFrames, ProgramKept, AllKept}
 
 -- ---- lists
@@ -52,9 +52,9 @@ pub frames-snoc : (ls : List Line) (l : Line) → AllFrames ls → there (frameB
 frames-snoc [] l k e = (e, tt)
 frames-snoc (m ∷ ls) l k e = (k .0, frames-snoc ls l (k .1) e)
 
-pub relocations-snoc : (text : List ℕ) (ss : List Slot) (s : Slot) → relocationsIn text (ss ++ (s ∷ [])) ≡ relocationsIn text ss ++ (entryIn text (s .entry) ∷ [])
+pub relocations-snoc : (text : List ℕ) (ss : List Slot) (s : Slot) → relocationsIn text (ss ++ (s ∷ [])) ≡ relocationsIn text ss ++ (slotIn text s ∷ [])
 relocations-snoc text [] s = refl
-relocations-snoc text (r ∷ ss) s = ap (λ (x : List Relocation). entryIn text (r .entry) ∷ x) (relocations-snoc text ss s)
+relocations-snoc text (r ∷ ss) s = ap (λ (x : List Relocation). slotIn text r ∷ x) (relocations-snoc text ss s)
 
 -- ---- programs
 

@@ -13,7 +13,8 @@ use Rattle.ast.specs.declared.Name.{Name}
 use Rattle.object.specs.declared.License.{License}
 use Rattle.object.specs.declared.License.the-variants.{Gpl, Text}
 use Rattle.object.specs.declared.Entry.{Entry}
-use Rattle.object.specs.declared.Entry.the-variants.{Empty, At}
+use Rattle.object.specs.declared.Entry.the-variants.{Empty, Taken}
+use Rattle.object.specs.declared.Slot.{Slot}
 use Rattle.object.specs.declared.Program.{Program}
 use Rattle.object.specs.declared.BpfObject.{BpfObject}
 use Rattle.object.specs.Tables.{emptySlot, Sound}
@@ -37,9 +38,12 @@ pub record Resolved (text : List ℕ) (ms : List Map) (place len number : ℕ) :
   pub last : lastMap (bytesAt text (place + 16) len) ms ≡ some number
   pub short : len ≤ 64
 
-abbrev pub ResolvedEntry : List ℕ → List Map → Entry → Type 0
-ResolvedEntry text ms Empty = ⊥
-ResolvedEntry text ms (At place len number) = Resolved text ms place len number
+abbrev pub ResolvedEntry : List ℕ → List Map → Entry → ℕ → ℕ → ℕ → Type 0
+ResolvedEntry text ms Empty place len number = ⊥
+ResolvedEntry text ms Taken place len number = Resolved text ms place len number
+
+abbrev pub ResolvedSlot : List ℕ → List Map → Slot → Type 0
+ResolvedSlot text ms s = ResolvedEntry text ms (s .entry) (s .place) (s .len) (s .map)
 
 -- lines that are hexadecimal
 abbrev pub AllFrames : List Line → Type 0
@@ -64,4 +68,4 @@ pub record Kept (text : List ℕ) (o : BpfObject) : Type 0 where
   pub licence : LicenceNamed text (o .license)
   pub maps : (i : ℕ) → i < o .«map_count» → Named text (record { at = getD (o .«map_at») i 0; len = getD (o .«map_len») i 0 })
   pub programs : AllKept text (o .«reloc_count») (take (o .«program_count») (o .programs))
-  pub slots : (i : ℕ) → i < o .«reloc_count» → ResolvedEntry text (declaredMaps text o) (getD (o .slots) i emptySlot .entry)
+  pub slots : (i : ℕ) → i < o .«reloc_count» → ResolvedSlot text (declaredMaps text o) (getD (o .slots) i emptySlot)

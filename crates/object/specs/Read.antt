@@ -15,7 +15,7 @@ use Rattle.ast.specs.declared.MapDecl.{MapDecl}
 use Rattle.object.specs.declared.License.{License}
 use Rattle.object.specs.declared.License.the-variants.{Gpl, Text}
 use Rattle.object.specs.declared.Entry.{Entry}
-use Rattle.object.specs.declared.Entry.the-variants.{Empty, At}
+use Rattle.object.specs.declared.Entry.the-variants.{Empty, Taken}
 use Rattle.object.specs.declared.Slot.{Slot}
 use Rattle.object.specs.declared.Program.{Program}
 use Rattle.object.specs.declared.BpfObject.{BpfObject}
@@ -49,13 +49,16 @@ mapsIn text (d ∷ ds) (a ∷ ats) [] = []
 mapsIn text (d ∷ ds) (a ∷ ats) (l ∷ lens) = mapIn text d a l ∷ mapsIn text ds ats lens
 
 -- a relocation's offset has 8 bytes, and its map's name follows; an empty slot is none
-abbrev pub entryIn : List ℕ → Entry → Relocation
-entryIn text Empty = record { offset = 0; map = [] }
-entryIn text (At place len number) = record { offset = value (bytesAt text place 8); map = bytesAt text (place + 16) len }
+abbrev pub entryIn : List ℕ → Entry → ℕ → ℕ → Relocation
+entryIn text Empty place len = record { offset = 0; map = [] }
+entryIn text Taken place len = record { offset = value (bytesAt text place 8); map = bytesAt text (place + 16) len }
+
+abbrev pub slotIn : List ℕ → Slot → Relocation
+slotIn text s = entryIn text (s .entry) (s .place) (s .len)
 
 abbrev pub relocationsIn : List ℕ → List Slot → List Relocation
 relocationsIn text [] = []
-relocationsIn text (s ∷ ss) = entryIn text (s .entry) ∷ relocationsIn text ss
+relocationsIn text (s ∷ ss) = slotIn text s ∷ relocationsIn text ss
 
 -- the code that a line adds
 abbrev pub frameCode : Option Frame → List ℕ

@@ -29,7 +29,7 @@ noProgram =
     record { section = noName; symbol = noName; from = 0; lines = 0; «code_len» = 0; first = 0; relocs = 0 }
 
 abbrev pub emptySlot : Slot
-emptySlot = record { entry = Empty }
+emptySlot = record { entry = Empty; map = 0; place = 0; len = 0 }
 
 -- no licence frame, no map, no program, 256 slots that are empty
 abbrev pub emptyObject : BpfObject

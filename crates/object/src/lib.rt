@@ -13,15 +13,20 @@ pub enum License {
     Text(Name),
 }
 
-// A relocation: the place of its offset in the text, behind which its map's name stands, how many bytes the name has, and the number of
-// the map.
+// Whether a relocation stands in a slot.
 pub enum Entry {
     Empty,
-    At { place: u16, len: u8, map: u8 },
+    Taken,
 }
 
+// A relocation: the number of its map, the place of its offset in the text, behind which the map's name stands, and how many bytes the name
+// has. The numbers stand beside the state and not in its case, so that an empty slot has every byte, and 256 of them are cleared in one
+// piece. In an empty slot they say nothing.
 pub struct Slot {
     pub entry: Entry,
+    pub map: u8,
+    pub place: u16,
+    pub len: u16,
 }
 
 // A program: its body is the `lines` lines of the text from `from` on, its code has `code_len` bytes, and its relocations are `relocs`
@@ -59,7 +64,7 @@ pub struct BpfObject {
     pub license: License,
     pub maps: [MapDecl; 64],
     pub map_at: [u16; 64],
-    pub map_len: [u8; 64],
+    pub map_len: [u16; 64],
     pub map_count: usize,
     pub programs: [Program; 32],
     pub program_count: usize,
@@ -97,6 +102,9 @@ impl BpfObject {
         let program = Program::none();
         let empty = Slot {
             entry: Entry::Empty,
+            map: 0,
+            place: 0,
+            len: 0,
         };
         BpfObject {
             license: License::Gpl,

@@ -108,7 +108,7 @@ fn lay_symtab<'a>(
     text: &[u8],
     object: BpfObject,
     ats: &'a [u16],
-    lens: &'a [u8],
+    lens: &'a [u16],
     license: usize,
     size: usize,
 ) -> usize
@@ -131,7 +131,7 @@ fn lay_strtab<'a>(
     text: &[u8],
     object: BpfObject,
     ats: &'a [u16],
-    lens: &'a [u8],
+    lens: &'a [u16],
     size: usize,
 ) -> usize
     requires { ⌜ Lent (now text) object (now ats) (now lens) ⌝ }
@@ -194,7 +194,7 @@ fn lay_btf<'a>(
     text: &[u8],
     maps: [MapDecl; 64],
     ats: &'a [u16],
-    lens: &'a [u8],
+    lens: &'a [u16],
     count: usize,
     types: usize,
     size: usize,
@@ -218,7 +218,7 @@ fn write_maps<'a>(
     text: &[u8],
     object: BpfObject,
     ats: &'a [u16],
-    lens: &'a [u8],
+    lens: &'a [u16],
     types: usize,
     sizes: Sizes,
 ) -> usize
@@ -245,7 +245,7 @@ fn write_tables<'a>(
     text: &[u8],
     object: BpfObject,
     ats: &'a [u16],
-    lens: &'a [u8],
+    lens: &'a [u16],
     sizes: Sizes,
     names: usize,
 ) -> usize
@@ -269,7 +269,7 @@ pub fn write_sections<'a>(
     text: &[u8],
     object: BpfObject,
     ats: &'a [u16],
-    lens: &'a [u8],
+    lens: &'a [u16],
     sizes: Sizes,
     names: usize,
     types: usize,

@@ -84,7 +84,7 @@ pub fn btf_size<'a>(
     text: &[u8],
     maps: [MapDecl; 64],
     ats: &'a [u16],
-    lens: &'a [u8],
+    lens: &'a [u16],
     count: usize,
 ) -> BtfSize
     requires { ⌜ MapsThere (now text) maps (now ats) (now lens) count ⌝ }

@@ -70,7 +70,7 @@ fn put_maps_strings<'a>(
     text: &[u8],
     maps: [MapDecl; 64],
     ats: &'a [u16],
-    lens: &'a [u8],
+    lens: &'a [u16],
     count: usize,
 ) -> usize
     requires { ⌜ MapsThere (now text) maps (now ats) (now lens) count ⌝ }
@@ -97,7 +97,7 @@ pub fn put_strings<'a>(
     text: &[u8],
     maps: [MapDecl; 64],
     ats: &'a [u16],
-    lens: &'a [u8],
+    lens: &'a [u16],
     count: usize,
 )
     requires { ⌜ MapsThere (now text) maps (now ats) (now lens) count ⌝ }

@@ -16,7 +16,7 @@ fn put_map_names<'a>(
     out: &mut [u8],
     text: &[u8],
     ats: &'a [u16],
-    lens: &'a [u8],
+    lens: &'a [u16],
     count: usize,
 ) -> usize
     requires { ⌜ NamesThere (now text) (now ats) (now lens) count ⌝ }
@@ -59,7 +59,7 @@ fn put_program_names(
 }
 
 // How many bytes the maps' written names take, each with its zero byte.
-fn map_names_size<'a>(text: &[u8], ats: &'a [u16], lens: &'a [u8], count: usize) -> usize
+fn map_names_size<'a>(text: &[u8], ats: &'a [u16], lens: &'a [u16], count: usize) -> usize
     requires { ⌜ NamesThere (now text) (now ats) (now lens) count ⌝ }
     ensures { λ r. ⌜ r ≡ sizeOf (namesIn (now (text .entry)) (take count (now (ats .entry))) (take count (now (lens .entry)))) ⌝ }
     ensures { λ r. ⌜ r ≤ 65 * count ⌝ }
@@ -94,7 +94,7 @@ fn program_names_size(text: &[u8], programs: [Program; 32], count: usize) -> usi
 }
 
 // How long `.strtab` is. The places of the maps' names are lent beside the tables: a table that lends them itself would be copied whole.
-pub fn strtab_size<'a>(text: &[u8], object: BpfObject, ats: &'a [u16], lens: &'a [u8]) -> usize
+pub fn strtab_size<'a>(text: &[u8], object: BpfObject, ats: &'a [u16], lens: &'a [u16]) -> usize
     requires { ⌜ Lent (now text) object (now ats) (now lens) ⌝ }
     ensures { λ r. ⌜ r ≡ length (strtabOf (jobIn (now (text .entry)) object)) ⌝ }
     ensures { λ r. ⌜ r ≤ 10000 ⌝ }
@@ -111,7 +111,7 @@ pub fn put_strtab<'a>(
     text: &[u8],
     object: BpfObject,
     ats: &'a [u16],
-    lens: &'a [u8],
+    lens: &'a [u16],
 )
     requires { ⌜ Lent (now text) object (now ats) (now lens) ⌝ }
     requires { ⌜ length (now out) ≡ length (strtabOf (jobIn (now text) object)) ⌝ }

@@ -18,7 +18,7 @@ fn put_map_symbols<'a>(
     text: &[u8],
     maps: [MapDecl; 64],
     ats: &'a [u16],
-    lens: &'a [u8],
+    lens: &'a [u16],
     count: usize,
 ) -> usize
     requires { ⌜ MapsThere (now text) maps (now ats) (now lens) count ⌝ }
@@ -118,7 +118,7 @@ pub fn put_symtab<'a>(
     text: &[u8],
     object: BpfObject,
     ats: &'a [u16],
-    lens: &'a [u8],
+    lens: &'a [u16],
     license: usize,
 )
     requires { ⌜ Lent (now text) object (now ats) (now lens) ⌝ }

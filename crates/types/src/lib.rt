@@ -35,7 +35,7 @@ fn add_maps<'a>(
     text: &[u8],
     maps: [MapDecl; 64],
     ats: &'a [u16],
-    lens: &'a [u8],
+    lens: &'a [u16],
     count: usize,
 ) -> BtfBuilder
     requires { ⌜ MapsThere (now text) maps (now ats) (now lens) count ⌝ }
@@ -125,7 +125,7 @@ fn put_types<'a>(
     text: &[u8],
     maps: [MapDecl; 64],
     ats: &'a [u16],
-    lens: &'a [u8],
+    lens: &'a [u16],
     count: usize,
 )
     requires { ⌜ MapsThere (now text) maps (now ats) (now lens) count ⌝ }
@@ -161,7 +161,7 @@ pub fn build_btf<'a>(
     text: &[u8],
     maps: [MapDecl; 64],
     ats: &'a [u16],
-    lens: &'a [u8],
+    lens: &'a [u16],
     count: usize,
     types: usize,
 )

@@ -4,7 +4,7 @@ use mathlib.Core.Path.{_≡_, refl}
 use mathlib.Core.List.{List, [], _++_}
 use Prim.Native.Nat.{ℕ, _+_, _-_, _*_, _≤_}
 use native.Mathlib.Omega.{arith}
-use lib.ListN.{length, take, drop, length-drop}
+use lib.ListN.{length, take, drop, getD, length-drop}
 use lib.Seq.{length-take-le}
 use borrow.Author.Needs.{needs}
 use borrow.Rule.Slice.PartMut.{mid-len}
@@ -12,6 +12,7 @@ use Rattle.octets.specs.Octets.{value}
 use Rattle.octets.proofs.Filling.{Filling, fill-start, fill-as, fill-room, fill-on, fill-done, over-part}
 use Rattle.elf.specs.Elf.{relBytes}
 use Rattle.object.specs.declared.Slot.{Slot}
+use Rattle.object.specs.Tables.{emptySlot}
 use Rattle.object.specs.Read.{bytesAt}
 use Rattle.contents.specs.Slots.{slotsBytes, AllPlaced}
 use Rattle.contents.proofs.Slots.{slots-length, Next, next-slot, not-empty, slots-done}
@@ -38,41 +39,44 @@ room p =
     omega (arith, slots-length (p .args .text .now) row (p .pre .1 .0), length-take-le (p .args .count) (drop (p .args .first) (p .args .t3)) h, p .pre .1 .1)
 
 -- where a turn is, and what the slot says
-abbrev start : tie.After-entry Inv-loop μ-loop → tie.Start Inv-loop μ-loop
+abbrev start : tie.After-enum-told Inv-loop μ-loop → tie.Start Inv-loop μ-loop
 start d = d .before .before .before .before .before .before .before
 
-abbrev row : tie.After-entry Inv-loop μ-loop → List Slot
+abbrev row : tie.After-enum-told Inv-loop μ-loop → List Slot
 row d = let a = start d .args in take (a .count) (drop (a .first) (a .t3))
 
-abbrev turn : tie.After-entry Inv-loop μ-loop → ℕ
+abbrev turn : tie.After-enum-told Inv-loop μ-loop → ℕ
 turn d = d .before .before .before .before .loop .i
 
-abbrev place : tie.After-entry Inv-loop μ-loop → ℕ
-place d = d .entry .given .0 .0
+abbrev slot : tie.After-enum-told Inv-loop μ-loop → Slot
+slot d = let a = start d .args in getD (a .t3) (a .first + turn d) emptySlot
 
-abbrev number : tie.After-entry Inv-loop μ-loop → ℕ
-number d = d .entry .given .0 .1 .1 .0
+abbrev place : tie.After-enum-told Inv-loop μ-loop → ℕ
+place d = slot d .place
 
-next : (d : tie.After-entry Inv-loop μ-loop) → Next (start d .args .text .now) (place d) (number d) (drop (turn d) (row d)) (drop (turn d + 1) (row d))
+abbrev number : tie.After-enum-told Inv-loop μ-loop → ℕ
+number d = slot d .map
+
+next : (d : tie.After-enum-told Inv-loop μ-loop) → Next (start d .args .text .now) (place d) (number d) (drop (turn d) (row d)) (drop (turn d + 1) (row d))
 next d =
     let q = d .before .before .before in
     let p = start d in
     let a = p .args in
     next-slot (a .text .now) (a .t3) (a .first) (a .count) (turn d) (omega (arith, long p, p .pre .0)) (omega (arith, q .loop-test))
-    (place d) (d .entry .given .0 .1 .0) (number d) (d .entry .given .1) (q .before .loop .inv .2)
+    (slot d) refl (d .enum-told .given .1) (q .before .loop .inv .2)
 
 -- the entry, and what is still to come
-abbrev added : tie.After-entry Inv-loop μ-loop → List ℕ
+abbrev added : tie.After-enum-told Inv-loop μ-loop → List ℕ
 added d = relBytes (value (bytesAt (start d .args .text .now) (place d) 8)) (2 + number d)
 
-abbrev later : tie.After-entry Inv-loop μ-loop → List ℕ
+abbrev later : tie.After-enum-told Inv-loop μ-loop → List ℕ
 later d = slotsBytes (start d .args .text .now) (drop (turn d + 1) (row d))
 
-filling : (d : tie.After-entry Inv-loop μ-loop)
+filling : (d : tie.After-enum-told Inv-loop μ-loop)
     → let l = d .before .before .before .before .loop in Filling (slotsBytes (start d .args .text .now) (row d)) (l .out) (l .at) (added d ++ later d)
 filling d = fill-as (added d ++ later d) (next d .bytes) (d .before .before .before .before .loop .inv .3)
 
-fits : (d : tie.After-entry Inv-loop μ-loop) → let l = d .before .before .before .before .loop in l .at + 16 ≤ length (l .out)
+fits : (d : tie.After-enum-told Inv-loop μ-loop) → let l = d .before .before .before .before .loop in l .at + 16 ≤ length (l .out)
 fits d = fill-room (added d) (later d) (filling d)
 
 loop-holds : tie.Need-loop-holds Inv-loop μ-loop
@@ -90,10 +94,10 @@ returns c =
     let a = p .args in
     absurd
     (not-empty (a .text .now) (a .t3) (a .first) (a .count) (q .before .loop .i) (omega (arith, long p, p .pre .0)) (omega (arith, q .loop-test))
-    (c .enum-told .given .1) (q .before .loop .inv .2))
+    (getD (a .t3) (a .first + q .before .loop .i) emptySlot) refl (c .enum-told2 .given .1) (q .before .loop .inv .2))
 
 part-put-slot-end : tie.Need-part-put-slot-end Inv-loop μ-loop
-part-put-slot-end c = omega (arith, fits (c .before))
+part-put-slot-end c = omega (arith, fits c)
 
 put-slot-requires : tie.Need-put-slot-requires Inv-loop μ-loop
 put-slot-requires c κs =

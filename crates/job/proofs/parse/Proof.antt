@@ -8,8 +8,8 @@ use Rattle.job.proofs.parse.Tie as tie
 
 returns : tie.Need-returns
 returns c =
-    let d = c .before .before in
-    rw (c .refused .ensures) (simp (lt-ltb 65535 (length (d .before .before .args .text .now)) (d .if1 .taken)), tt)
+    let d = c .before in
+    (simp (lt-ltb 65535 (length (d .before .before .args .text .now)) (d .if1 .taken)), tt)
 
 returns-2 : tie.Need-returns-2
 returns-2 c =
@@ -17,4 +17,4 @@ returns-2 c =
     (c .walk .ensures .0 ∙ simp (le-ltb 65535 (length (d .before .before .args .text .now)) (d .if1 .left)), c .walk .ensures .1)
 
 pub parse-spec : {M : Type 1} → statement M
-parse-spec = tie.close (tie.spec (search needs) (search needs) returns (search needs) returns-2)
+parse-spec = tie.close (tie.spec (search needs) returns (search needs) returns-2)

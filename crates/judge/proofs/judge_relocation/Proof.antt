@@ -109,14 +109,14 @@ part-find-map-start c = omega (arith, inside (c .before .before .before .before 
 find-map-requires : tie.Need-find-map-requires
 find-map-requires c κs = let p = c .before .before .before .before .before .before .before .before .before .before .before .before .before in (part-hex (piece p), p .pre .1 .1 .1 .1 .0)
 
-sub-t29 : tie.Need-sub-t29
-sub-t29 c = omega (arith, inside (c .before .before .before .before .before .before .before .before .before .before .before .before .before .before .before .before .before))
-
-cast-t31 : tie.Need-cast-t31
-cast-t31 c = omega (arith, short (c .before .before .before .before .before))
+sub-t30 : tie.Need-sub-t30
+sub-t30 c = omega (arith, inside (c .before .before .before .before .before .before .before .before .before .before .before .before .before .before .before .before .before))
 
 cast-t32 : tie.Need-cast-t32
-cast-t32 c =
+cast-t32 c = omega (arith, short (c .before .before .before .before .before))
+
+cast-t33 : tie.Need-cast-t33
+cast-t33 c =
     let m = c .before in
     let i : m .map .given .0 .0 < m .before .before .before .before .before .before .before .before .before .before .before .before .before .before .before .before .args .counts .maps = subst (FoundIn (m .before .before .before .before .before .before .before .before .before .before .before .before .before .before .before .before .args .counts .maps)) (m .map .given .1) (m .before .before .find-map .ensures .1) in
     omega (arith, m .before .before .before .before .before .before .before .before .before .before .before .before .before .before .before .before .pre .1 .1 .0)
@@ -189,9 +189,9 @@ judge-relocation-spec =
     (search needs)
     find-map-requires
     (search needs) (search needs) (search needs)
-    sub-t29
-    cast-t31
+    sub-t30
     cast-t32
+    cast-t33
     (search needs)
     returns-2
     returns-3

@@ -41,8 +41,8 @@ cast-at c = omega (arith, c .shared-slice-known5 .given (c .before .before .loop
 cast-end : tie.Need-cast-end Inv-loop μ-loop
 cast-end c = omega (arith, c .shared-slice-known6 .given (c .before .before .before .loop .i - 1))
 
-mul-end : tie.Need-mul-end Inv-loop μ-loop
-mul-end c = omega (arith, c .shared-slice-known6 .given (c .before .before .before .loop .i - 1))
+mul-end-2 : tie.Need-mul-end-2 Inv-loop μ-loop
+mul-end-2 c = omega (arith, c .shared-slice-known6 .given (c .before .before .before .loop .i - 1))
 
 add-end : tie.Need-add-end Inv-loop μ-loop
 add-end c =
@@ -93,9 +93,10 @@ find-map-spec =
     (search needs) (search needs)
     shared-slice-read-at
     cast-at
+    (search needs)
     shared-slice-read-end
     cast-end
-    mul-end
+    mul-end-2
     add-end
     (search needs) (search needs)
     part-same-end

@@ -21,14 +21,14 @@ use Rattle.maker.proofs.make.Tie as tie
 
 build-requires : tie.Need-build-requires
 build-requires c κs =
-    let q = c .before .before .before .before in
+    let q = c .before .before .before in
     let p = q .before .before .before in
     subst (λ (x : Parsing). ParsingKept (p .args .job .now) x (q .parse .result .object)) (c .before .enum-told .given .1) (q .parse .ensures .1)
 
 returns : tie.Need-returns
 returns c =
     let u = c .before .before in
-    let q = u .before .before .before .before .before in
+    let q = u .before .before .before .before in
     let p = q .before .before .before in
     let a = p .args in
     let e : checked (a .job .now) ≡ accepted (jobIn (a .job .now) (q .parse .result .object)) =
@@ -38,7 +38,7 @@ returns c =
 
 returns-2 : tie.Need-returns-2
 returns-2 c =
-    let q = c .before .before .before .before in
+    let q = c .before .before .before in
     let a = q .before .before .before .args in
     let r = c .before .answer .given .0 .0 in
     let e : checked (a .job .now) ≡ faulty (numberOf r) (lineOf r) =

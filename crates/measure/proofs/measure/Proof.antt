@@ -17,7 +17,7 @@ use Rattle.headers.specs.Headers.{headersBytes}
 use Rattle.measure.specs.declared.Measuring.{Measuring}
 use Rattle.measure.specs.Measured.{front, frontRows, afterPrograms, programRows, tabled, tableRows, Low}
 use Rattle.measure.proofs.Table.{Has, has-long, has-on, from-zero, front-count, low-front, low-tabled, low-more}
-use Rattle.measure.proofs.Programs.{rows-few, rows-count}
+use Rattle.measure.proofs.Programs.{rows-few, rows-count, short-names}
 use Rattle.measure.proofs.Whole.{rows-whole, measured-is}
 use Rattle.measure.proofs.measure.Statement.{statement}
 use Rattle.measure.proofs.measure.Tie as tie
@@ -42,7 +42,7 @@ measure-programs-requires c κs =
     let p = b .before .before .before .before .before in
     let a = p .args in (
       rw (before f .1) (low-front (a .sizes) (a .object .«map_count») (p .pre .1 .1 .0)),
-      ((p .pre .0 .sound .few-programs, p .pre .0 .sound .programs), (has-long (before f .0) ∙ p .pre .1 .1 .1, b .number-behind .ensures .1)),
+      ((p .pre .0 .sound .few-programs, p .pre .0 .sound .programs), (has-long (before f .0) ∙ p .pre .1 .1 .1, (b .number-behind .ensures .1, short-names (a .text .now) (a .object .«reloc_count») (programs p) (p .pre .0 .programs)))),
     )
 
 -- with the programs'

@@ -29,7 +29,7 @@ add-section-requires c κs =
     let m = p .args .m in
     let at = ap (λ (s : code.Section). s .at) (q .plain .ensures) in
     let size = ap (λ (s : code.Section). s .size) (q .plain .ensures) in
-    ((omega (arith, p .pre .0), p .pre .1 .0), (omega (arith, at, size, align-near 8 (m .end) (omega arith), p .pre .0, q .before .struct-known2), omega (arith, p .pre .0, q .before .before .struct-known)))
+    ((omega (arith, p .pre .0), p .pre .1 .0), (omega (arith, at, size, align-near 8 (m .end) (omega arith), p .pre .0, q .before .struct-known2), omega (arith, p .pre .0, p .pre .1 .1 .1)))
 
 -- with the program's own section
 first : (c : tie.After-add-section) → let a = c .before .before .before .before .before .before .args in
@@ -49,15 +49,16 @@ low : (c : tie.After-add-section) → Low 69 (c .add-section .result)
 low c =
     let q = c .before .before in
     let p = q .before .before .before .before in
-    rw (first c .1) (low-coded (p .args .program) (p .pre .0) (omega (arith, q .before .struct-known2)) (omega (arith, q .before .before .struct-known)))
+    rw (first c .1) (low-coded (p .args .program) (p .pre .0) (omega (arith, q .before .struct-known2)) (p .pre .1 .1 .1))
 
 -- at most two sections more
 more : (c : tie.After-add-section) → let a = c .before .before .before .before .before .before .args in
     (n : ℕ) → Low n (a .m) → Low (suc (suc n)) (programmed (a .m) (a .symtab) (a .program))
 more c n l =
     let q = c .before .before in
-    let a = q .before .before .before .before .args in
-    low-programmed (a .symtab) (a .program) l (omega (arith, q .before .struct-known2)) (omega (arith, q .before .before .struct-known)) (omega (arith, q .before .struct-known2))
+    let p = q .before .before .before .before in
+    let a = p .args in
+    low-programmed (a .symtab) (a .program) l (omega (arith, q .before .struct-known2)) (p .pre .1 .1 .1) (omega (arith, q .before .struct-known2))
 
 returns : tie.Need-returns
 returns c =
@@ -71,7 +72,7 @@ rel-requires : tie.Need-rel-requires
 rel-requires c κs =
     let u = c .before .before .before in
     let p = u .before .before .before .before .before .before in
-    (omega (arith, low u), (omega (arith, low u), (omega (arith, p .pre .1 .1), omega (arith, p .pre .0, low u))))
+    (omega (arith, low u), (omega (arith, low u), (omega (arith, p .pre .1 .1 .0), omega (arith, p .pre .0, low u))))
 
 add-section-requires-2 : tie.Need-add-section-requires-2
 add-section-requires-2 c κs =
@@ -81,7 +82,7 @@ add-section-requires-2 c κs =
     let p = q .before .before .before .before in
     let at = ap (λ (s : code.Section). s .at) (r .rel .ensures) in
     let size = ap (λ (s : code.Section). s .size) (r .rel .ensures) in
-    ((omega (arith, low u), has-long (first u .0) ∙ p .pre .1 .0), (omega (arith, at, size, align-near 8 (u .add-section .result .end) (omega arith), low u, q .before .struct-known2), omega (arith, low u, q .before .before .struct-known)))
+    ((omega (arith, low u), has-long (first u .0) ∙ p .pre .1 .0), (omega (arith, at, size, align-near 8 (u .add-section .result .end) (omega arith), low u, q .before .struct-known2), omega (arith, low u, p .pre .1 .1 .1)))
 
 returns-2 : tie.Need-returns-2
 returns-2 c =

@@ -14,7 +14,7 @@ use Rattle.headers.specs.Headers.{headersBytes}
 use Rattle.headers.proofs.Headers.{headers-length, headers-append}
 use Rattle.strtab.proofs.Rows.{program-from, program-end}
 use Rattle.measure.specs.declared.Measuring.{Measuring}
-use Rattle.measure.specs.Measured.{programmed, programRow, afterPrograms, programRows, Low}
+use Rattle.measure.specs.Measured.{programmed, programRow, afterPrograms, programRows, Low, ShortNames}
 use Rattle.measure.proofs.Table.{low-more}
 use Rattle.measure.proofs.Programs.{rows-few, row-count}
 use Rattle.measure.proofs.measure_programs.Statement.{statement}
@@ -29,7 +29,7 @@ Inv-loop table₀ count symtab programs m₀ i₀ table m i =
     (i ≤ count) × (count ≤ 32) × (length programs ≡ 32) × (symtab ≤ 68) × Low (4 + 2 * i) m
     × (afterPrograms m symtab (drop i (take count programs)) ≡ afterPrograms m₀ symtab (take count programs))
     × Going table₀ (64 * m₀ .count) (heads m₀ symtab (take count programs)) table (64 * m .count) (heads m symtab (drop i (take count programs)))
-    × (length table₀ ≡ 4544)
+    × (length table₀ ≡ 4544) × ShortNames (drop i (take count programs))
 
 abbrev μ-loop : tie.MeasureT-loop
 μ-loop table₀ count symtab programs m₀ i₀ table m i = count - i
@@ -40,7 +40,7 @@ loop-holds c =
     let a = p .args in
     let ps = take (a .count) (a .t3) in
     let room : 64 * a .start .count + length (heads (a .start) (a .symtab) ps) ≤ length (a .table .now) = omega (arith, headers-length (programRows (a .start) (a .symtab) ps), rows-few (a .start) (a .symtab) ps, length-take-le (a .count) (a .t3) (omega (arith, p .pre .1 .0)), p .pre) in
-    (search needs, p .pre .1 .0 .0, p .pre .1 .0 .1, p .pre .1 .1 .1, p .pre .0, refl, go-start (a .table .now) (64 * a .start .count) (heads (a .start) (a .symtab) ps) room, p .pre .1 .1 .0)
+    (search needs, p .pre .1 .0 .0, p .pre .1 .0 .1, p .pre .1 .1 .1 .0, p .pre .0, refl, go-start (a .table .now) (64 * a .start .count) (heads (a .start) (a .symtab) ps) room, p .pre .1 .1 .0, p .pre .1 .1 .1 .1)
 
 array-copy-out-program : tie.Need-array-copy-out-program Inv-loop μ-loop
 array-copy-out-program c = let l = c .before .loop in omega (arith, l .inv .0, l .inv .1)
@@ -49,7 +49,9 @@ measure-program-requires : tie.Need-measure-program-requires Inv-loop μ-loop
 measure-program-requires c κs =
     let q = c .before .before .before in
     let l = q .loop in
-    (low-more (l .inv .4) (omega (arith, l .inv .1, c .before .before .loop-test)), (l .inv .6 .same ∙ l .inv .7, l .inv .3))
+    let a = q .before .before .args in
+    let f = program-from (a .t3) (a .count) (l .i) (omega (arith, c .before .before .loop-test)) (omega (arith, l .inv .1, l .inv .2)) in
+    (low-more (l .inv .4) (omega (arith, l .inv .1, c .before .before .loop-test)), (l .inv .6 .same ∙ l .inv .7, (l .inv .3, subst ShortNames f (l .inv .8) .0)))
 
 loop-again : tie.Need-loop-again Inv-loop μ-loop
 loop-again c =
@@ -77,6 +79,7 @@ loop-again c =
       ap (λ (x : Measuring). afterPrograms x (a .symtab) next) e ∙ sym (ap (afterPrograms m (a .symtab)) f) ∙ l .inv .5,
       rw e g,
       l .inv .7,
+      subst ShortNames f (l .inv .8) .1,
     )
 
 returns : tie.Need-returns Inv-loop μ-loop

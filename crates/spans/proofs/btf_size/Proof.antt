@@ -24,8 +24,8 @@ array-copy-out-map c = let m = c .before .loop .inv .there in omega (arith, m .f
 shared-slice-read-t18 : tie.Need-shared-slice-read-t18 Inv-loop μ-loop
 shared-slice-read-t18 c = let m = c .before .before .before .loop .inv .there in omega (arith, m .few, m .ats-long)
 
-shared-slice-read-t20 : tie.Need-shared-slice-read-t20 Inv-loop μ-loop
-shared-slice-read-t20 c = let m = c .before .before .before .before .loop .inv .there in omega (arith, m .few, m .lens-long)
+shared-slice-read-t21 : tie.Need-shared-slice-read-t21 Inv-loop μ-loop
+shared-slice-read-t21 c = let m = c .before .before .before .before .loop .inv .there in omega (arith, m .few, m .lens-long)
 
 add-types : tie.Need-add-types Inv-loop μ-loop
 add-types c =
@@ -69,7 +69,8 @@ btf-size-spec =
     array-copy-out-map
     (search needs)
     shared-slice-read-t18
-    shared-slice-read-t20
+    (search needs)
+    shared-slice-read-t21
     (search needs)
     add-types
     (search needs)

@@ -25,8 +25,8 @@ loop-holds c = let p = c .before .before .before in (search needs, search needs,
 shared-slice-read-t11 : tie.Need-shared-slice-read-t11 Inv-loop μ-loop
 shared-slice-read-t11 c = let l = c .before .before .loop in omega (arith, l .inv .2)
 
-shared-slice-read-t13 : tie.Need-shared-slice-read-t13 Inv-loop μ-loop
-shared-slice-read-t13 c = let l = c .before .before .before .loop in omega (arith, l .inv .2)
+shared-slice-read-t14 : tie.Need-shared-slice-read-t14 Inv-loop μ-loop
+shared-slice-read-t14 c = let l = c .before .before .before .loop in omega (arith, l .inv .2)
 
 written-size-requires : tie.Need-written-size-requires Inv-loop μ-loop
 written-size-requires c κs = let l = c .before .before .before .loop in l .inv .2 .named (l .i) (omega arith)
@@ -58,7 +58,8 @@ map-names-size-spec =
     loop-holds
     (search needs)
     shared-slice-read-t11
-    shared-slice-read-t13
+    (search needs)
+    shared-slice-read-t14
     written-size-requires
     add-n
     (search needs) (search needs) (search needs)

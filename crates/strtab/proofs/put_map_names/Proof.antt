@@ -31,8 +31,8 @@ loop-holds c =
 shared-slice-read-t12 : tie.Need-shared-slice-read-t12 Inv-loop μ-loop
 shared-slice-read-t12 c = let l = c .before .before .loop in omega (arith, l .inv .2)
 
-shared-slice-read-t14 : tie.Need-shared-slice-read-t14 Inv-loop μ-loop
-shared-slice-read-t14 c = let l = c .before .before .before .loop in omega (arith, l .inv .2)
+shared-slice-read-t15 : tie.Need-shared-slice-read-t15 Inv-loop μ-loop
+shared-slice-read-t15 c = let l = c .before .before .before .loop in omega (arith, l .inv .2)
 
 put-written-requires : tie.Need-put-written-requires Inv-loop μ-loop
 put-written-requires c κs =
@@ -70,7 +70,8 @@ put-map-names-spec =
     loop-holds
     (search needs)
     shared-slice-read-t12
-    shared-slice-read-t14
+    (search needs)
+    shared-slice-read-t15
     put-written-requires
     (search needs) (search needs)
     loop-again

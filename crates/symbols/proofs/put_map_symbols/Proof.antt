@@ -103,6 +103,7 @@ put-map-symbols-spec =
     (search needs)
     (search needs)
     (search needs)
+    (search needs)
     written-size-requires
     add-place
     (search needs)

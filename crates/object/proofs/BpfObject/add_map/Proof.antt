@@ -15,6 +15,6 @@ pub add-map-spec : {M : Type 1} → statement M
 add-map-spec =
     tie.close
     (tie.spec
-    (search needs) (search needs) (search needs) (search needs) (search needs) (search needs)
+    (search needs) (search needs) (search needs) (search needs) (search needs) (search needs) (search needs)
     returns
     returns-2)
