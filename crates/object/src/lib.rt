@@ -59,17 +59,18 @@ impl Program {
     }
 }
 
-// The names of the maps stand in two arrays of numbers beside their declarations, so that a lookup is lent them and copies nothing.
+// The names of the maps stand in two arrays of numbers beside their declarations, so that a lookup is lent them and copies nothing. A count
+// stands before its table, and no table next to the licence: then the compiler copies the tables apart from each other.
 pub struct BpfObject {
     pub license: License,
+    pub map_count: usize,
     pub maps: [MapDecl; 64],
     pub map_at: [u16; 64],
     pub map_len: [u16; 64],
-    pub map_count: usize,
-    pub programs: [Program; 32],
     pub program_count: usize,
-    pub slots: [Slot; 256],
+    pub programs: [Program; 32],
     pub reloc_count: usize,
+    pub slots: [Slot; 256],
 }
 
 pub enum Adding {

@@ -158,8 +158,8 @@ fn lay_shstrtab(out: &mut [u8], end: usize, text: &[u8], object: BpfObject, size
     behind
 }
 
-// The programs' sections, behind what ends at `start`; where they end.
-fn write_programs(
+// The sections of programs, behind what ends at `start`; where they end.
+fn lay_programs(
     out: &mut [u8],
     start: usize,
     text: &[u8],
@@ -185,6 +185,23 @@ fn write_programs(
         }
     }
     end
+}
+
+// The object's programs' sections, where there are programs, behind what ends at `end`; where they end. With none no table is handed on, since
+// a function has a copy of a table that it is handed.
+fn write_programs(out: &mut [u8], end: usize, text: &[u8], object: BpfObject) -> usize
+    requires { ⌜ Kept (now text) object ⌝ }
+    requires { ⌜ (endOf end (programPieces (now text) (object .slots) (take (object .«program_count») (object .programs))) ≤ length (now out)) × (length (now out) ≤ 200000000) ⌝ }
+    ensures { λ _. ⌜ now (out .exit) ≡ over (now (out .entry)) end (laid end (programPieces (now (text .entry)) (object .slots) (take (object .«program_count») (object .programs)))) ⌝ }
+    ensures { λ r. ⌜ r ≡ endOf end (programPieces (now (text .entry)) (object .slots) (take (object .«program_count») (object .programs))) ⌝ }
+{
+    let count = object.program_count;
+    if count == 0 {
+        return end;
+    }
+    let programs = object.programs;
+    let slots = object.slots;
+    lay_programs(out, end, text, slots, programs, count)
 }
 
 // `.BTF`, behind what ends at `end`; where it ends.
@@ -283,11 +300,9 @@ pub fn write_sections<'a>(
     ensures { λ _. ⌜ now (out .exit) ≡ over (now (out .entry)) 64 (laid 64 (allPieces (now (text .entry)) object)) ⌝ }
     ensures { λ r. ⌜ r ≡ endOf 64 (allPieces (now (text .entry)) object) ⌝ }
 {
-    let programs = object.programs;
-    let slots = object.slots;
     let declared = object.license;
     let licensed = lay_license(out, 64, text, declared, sizes.license + 1);
     let mapped = write_maps(out, licensed, text, object, ats, lens, types, sizes);
-    let programmed = write_programs(out, mapped, text, slots, programs, object.program_count);
+    let programmed = write_programs(out, mapped, text, object);
     write_tables(out, programmed, text, object, ats, lens, sizes, names)
 }
