@@ -1,0 +1,10 @@
+-- `utf8::Wait::idle` meets its contract. It needs no file: this one has the log of a wrong answer show the two sides. Assumes nothing.
+use mathlib.Core.Path.{refl}
+use Rattle.utf8.proofs.Wait.idle.Statement.{statement}
+use Rattle.utf8.proofs.Wait.idle.Tie as tie
+
+returns : tie.Need-returns
+returns c = refl
+
+pub idle-spec : {M : Type 1} → statement M
+idle-spec = tie.close (tie.spec returns)
