@@ -1,0 +1,11 @@
+-- `elf::add_string` meets its contract. It needs no file: this one has the log of a wrong answer show the two sides. Assumes nothing.
+use mathlib.Core.Path.{refl}
+use borrow.Author.Needs.{needs}
+use Rattle.elf.proofs.add_string.Statement.{statement}
+use Rattle.elf.proofs.add_string.Tie as tie
+
+returns : tie.Need-returns
+returns c = refl
+
+pub add-string-spec : {M : Type 1} → statement M
+add-string-spec = tie.close (tie.spec (search needs) (search needs) returns)
