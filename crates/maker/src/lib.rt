@@ -1,7 +1,7 @@
 // `make`: a whole object or one refusal. The object is measured first; then each section writer is lent its own part of the output, from the
 // section's place to its end, and what lies between two sections is cleared.
 ghost use mathlib.Core.Path.{_≡_};
-ghost use Prim.Native.Nat.{_≤_};
+ghost use Prim.Native.Nat.{_+_, _≤_};
 ghost use lib.ListN.{length};
 ghost use Rattle.object.specs.Read.{declaredMaps, jobIn};
 ghost use Rattle.object.specs.Kept.{Kept};
@@ -12,7 +12,7 @@ ghost use Rattle.maker.specs.Made.{outcomeOf, outcome};
 ghost use Rattle.headers.specs.Headers.{headersBytes};
 ghost use Rattle.measure.specs.Measured.{rowsOf, measuredOf, SizesOf, Small};
 ghost use Rattle.btf.specs.Btf.{addTypes, start};
-ghost use Rattle.btf.specs.Maps.{btfTypes};
+ghost use Rattle.btf.specs.Maps.{mapTypes, btfTypes};
 use btf::BtfBuilder;
 use job::Parsing;
 use measure::Measured;
@@ -26,6 +26,39 @@ struct Weighed {
     types: usize,
 }
 
+// What the maps take: the types and the strings of `.BTF`, and `.maps`.
+struct MapsWeighed {
+    types: usize,
+    strings: usize,
+    room: usize,
+}
+
+// With no map no table is handed on, since a function has a copy of a table that it is handed.
+fn weigh_maps<'a>(text: &[u8], object: BpfObject, ats: &'a [u16], lens: &'a [u16]) -> MapsWeighed
+    requires { ⌜ Lent (now text) object (now ats) (now lens) ⌝ }
+    ensures { λ r. ⌜ r .types ≡ length (addTypes (btfTypes (declaredMaps (now (text .entry)) object)) start .types) ⌝ }
+    ensures { λ r. ⌜ r .strings ≡ length (addTypes (btfTypes (declaredMaps (now (text .entry)) object)) start .strings) ⌝ }
+    ensures { λ r. ⌜ mapTypes 6 0 (declaredMaps (now (text .entry)) object) .size ≡ r .room ⌝ }
+    ensures { λ r. ⌜ (r .types + r .strings ≤ 65535) × (r .room ≤ 2048) ⌝ }
+{
+    let count = object.map_count;
+    if count == 0 {
+        return MapsWeighed {
+            types: 92,
+            strings: 27,
+            room: 0,
+        };
+    }
+    let maps = object.maps;
+    let btf = spans::btf_size(text, maps, ats, lens, count);
+    let room = spans::maps_size(maps, count);
+    MapsWeighed {
+        types: btf.types,
+        strings: btf.strings,
+        room,
+    }
+}
+
 // The sizes of the sections whose contents are not counted in the tables themselves.
 fn weigh<'a>(text: &[u8], object: BpfObject, ats: &'a [u16], lens: &'a [u16]) -> Weighed
     requires { ⌜ Lent (now text) object (now ats) (now lens) ⌝ }
@@ -33,21 +66,18 @@ fn weigh<'a>(text: &[u8], object: BpfObject, ats: &'a [u16], lens: &'a [u16]) ->
     ensures { λ r. ⌜ Small (r .sizes) ⌝ }
     ensures { λ r. ⌜ r .types ≡ length (addTypes (btfTypes (declaredMaps (now (text .entry)) object)) start .types) ⌝ }
 {
-    let maps = object.maps;
-    let count = object.map_count;
     let declared = object.license;
     let license = contents::license_len(declared);
-    let btf = spans::btf_size(text, maps, ats, lens, count);
-    let room = spans::maps_size(maps, count);
+    let maps = weigh_maps(text, object, ats, lens);
     let strtab = strtab::strtab_size(text, object, ats, lens);
     Weighed {
         sizes: Sizes {
             license,
-            maps: room,
-            btf: BtfBuilder::HEADER + btf.types + btf.strings,
+            maps: maps.room,
+            btf: BtfBuilder::HEADER + maps.types + maps.strings,
             strtab,
         },
-        types: btf.types,
+        types: maps.types,
     }
 }
 
