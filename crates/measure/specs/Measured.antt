@@ -97,6 +97,13 @@ abbrev pub programRows : Measuring → ℕ → List Program → List code.Sectio
 programRows m symtab [] = []
 programRows m symtab (p ∷ ps) = programRow m symtab p ++ programRows (programmed m symtab p) symtab ps
 
+-- the same, where the first program's section has the number `first` and the symbol table stands behind the last one's
+abbrev pub afterDeclared : Measuring → ℕ → List Program → Measuring
+afterDeclared m first ps = afterPrograms m (behindAll ps first) ps
+
+abbrev pub declaredRows : Measuring → ℕ → List Program → List code.Section
+declaredRows m first ps = programRows m (behindAll ps first) ps
+
 -- the three tables behind the programs' sections
 abbrev pub symtabAt : Measuring → ℕ → code.Section
 symtabAt m symbols =

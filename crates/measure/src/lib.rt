@@ -10,7 +10,7 @@ ghost use Rattle.elf.specs.Added.{Alignment};
 ghost use Rattle.object.specs.Read.{jobIn};
 ghost use Rattle.object.specs.Kept.{Kept};
 ghost use Rattle.headers.specs.Headers.{headersBytes};
-ghost use Rattle.measure.specs.Measured.{withSection, plainAt, plainOn, relAt, behindAll, begun, Low, ShortNames, front, frontRows, programmed, programRow, afterPrograms, programRows, tabled, tableRows, rowsOf, measuredOf, SizesOf, Small};
+ghost use Rattle.measure.specs.Measured.{withSection, plainAt, plainOn, relAt, behindAll, begun, Low, ShortNames, front, frontRows, programmed, programRow, afterPrograms, programRows, afterDeclared, declaredRows, tabled, tableRows, rowsOf, measuredOf, SizesOf, Small};
 use elf::Section;
 use object::BpfObject;
 use object::Program;
@@ -180,6 +180,31 @@ fn measure_programs(
     m
 }
 
+// The sections of the object's programs, the first of which has the number `first`. With no program no table is handed on, since a function has
+// a copy of a table that it is handed.
+fn measure_declared(
+    table: &mut [u8],
+    start: Measuring,
+    object: BpfObject,
+    first: usize,
+) -> Measuring
+    requires { ⌜ Low 4 start ⌝ }
+    requires { ⌜ (object .«program_count» ≤ 32) × (length (object .programs) ≡ 32) ⌝ }
+    requires { ⌜ length (now table) ≡ 4544 ⌝ }
+    requires { ⌜ (first ≤ 4) × ShortNames (take (object .«program_count») (object .programs)) ⌝ }
+    ensures { λ _. ⌜ now (table .exit) ≡ over (now (table .entry)) (64 * start .count) (headersBytes (declaredRows start first (take (object .«program_count») (object .programs)))) ⌝ }
+    ensures { λ r. ⌜ r ≡ afterDeclared start first (take (object .«program_count») (object .programs)) ⌝ }
+    ensures { λ r. ⌜ Low (4 + 2 * object .«program_count») r ⌝ }
+{
+    let count = object.program_count;
+    if count == 0 {
+        return start;
+    }
+    let programs = object.programs;
+    let symtab = number_behind(first, programs, count);
+    measure_programs(table, start, programs, count, symtab)
+}
+
 // A section without link, info and entry size more, whose name has `name` bytes.
 fn add_plain(
     table: &mut [u8],
@@ -263,13 +288,11 @@ pub fn measure(text: &[u8], table: &mut [u8], object: BpfObject, sizes: Sizes) -
     ensures { λ r. ⌜ r ≡ measuredOf (jobIn (now (text .entry)) object) ⌝ }
     ensures { λ r. ⌜ r .len ≤ 200000000 ⌝ }
 {
-    let programs = object.programs;
     let maps = object.map_count;
     let count = object.program_count;
     let first = symbols::first_program(maps);
-    let symtab = number_behind(first, programs, count);
     let before = measure_front(table, sizes, maps);
-    let declared = measure_programs(table, before, programs, count, symtab);
+    let declared = measure_declared(table, before, object, first);
     let whole = measure_tables(table, declared, 2 + maps + count, sizes.strtab);
     let at = elf::align_to(whole.end, 8);
     Measured {
