@@ -3,4 +3,5 @@ pub mod Strings
 pub mod Joined
 pub mod Rows
 pub mod Places
+pub mod Headers
 pub mod Single

@@ -3,3 +3,4 @@ pub mod Elf
 pub mod Added
 pub mod Entries
 pub mod Row
+pub mod Headers

@@ -1,4 +1,3 @@
 pub mod Names
 pub mod Whole
-pub mod Headers
 pub mod Single

@@ -31,8 +31,8 @@ use Rattle.contents.specs.Slots.{licenceLen}
 use Rattle.contents.proofs.Slots.{licence-length}
 use Rattle.strtab.specs.Rows.{strtabOf}
 use Rattle.headers.specs.Names.{sectionNames}
-use Rattle.headers.specs.Headers.{headersBytes}
-use Rattle.headers.proofs.Headers.{headers-length}
+use Rattle.elf.specs.Headers.{headersBytes}
+use Rattle.elf.proofs.Headers.{headers-length}
 use Rattle.members.specs.Section.{roomsOf}
 use Rattle.spans.proofs.Decls.{rooms-size}
 use Rattle.measure.specs.declared.Sizes.{Sizes}

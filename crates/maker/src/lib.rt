@@ -9,7 +9,7 @@ ghost use Rattle.named.specs.There.{Lent};
 ghost use Rattle.object.specs.Object as whole;
 ghost use Rattle.job.specs.Answer.{answer, fitted, outputAfter};
 ghost use Rattle.maker.specs.Made.{outcomeOf, outcome};
-ghost use Rattle.headers.specs.Headers.{headersBytes};
+ghost use Rattle.elf.specs.Headers.{headersBytes};
 ghost use Rattle.measure.specs.Measured.{rowsOf, measuredOf, SizesOf, Small};
 ghost use Rattle.btf.specs.Btf.{addTypes, start};
 ghost use Rattle.btf.specs.Maps.{mapTypes, btfTypes};

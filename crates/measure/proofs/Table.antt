@@ -18,8 +18,8 @@ use Rattle.elf.specs.Entries.{headerOf, nullSection}
 use Rattle.elf.specs.declared.Section as code
 use Rattle.elf.proofs.Places.{align-near}
 use Rattle.object.specs.declared.Program.{Program}
-use Rattle.headers.specs.Headers.{headersBytes}
-use Rattle.headers.proofs.Headers.{headers-length, headers-append}
+use Rattle.elf.specs.Headers.{headersBytes}
+use Rattle.elf.proofs.Headers.{headers-length, headers-append}
 use Rattle.measure.specs.declared.Measuring.{Measuring}
 use Rattle.measure.specs.declared.Sizes.{Sizes}
 use Rattle.measure.specs.Measured.{withSection, plainOn, relAt, begun, licenceAt, licensed, mapsAt, roomed, btfAt, mapped, front, frontRows, codeAt, coded, relOf, programmed, symtabAt, withSymbols, withStrings, tabled, sectionOf, rowsFrom, Low, Small}

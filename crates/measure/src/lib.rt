@@ -9,7 +9,7 @@ ghost use Rattle.elf.specs.Entries.{nullSection};
 ghost use Rattle.elf.specs.Added.{Alignment};
 ghost use Rattle.object.specs.Read.{jobIn};
 ghost use Rattle.object.specs.Kept.{Kept};
-ghost use Rattle.headers.specs.Headers.{headersBytes};
+ghost use Rattle.elf.specs.Headers.{headersBytes};
 ghost use Rattle.measure.specs.Measured.{withSection, plainAt, plainOn, relAt, behindAll, begun, Low, ShortNames, front, frontRows, programmed, programRow, afterPrograms, programRows, afterDeclared, declaredRows, tabled, tableRows, rowsOf, measuredOf, SizesOf, Small};
 use elf::Section;
 use object::BpfObject;
@@ -107,7 +107,7 @@ fn number_behind(first: usize, programs: [Program; 32], count: usize) -> usize
     let mut i = 0;
     while i < count {
         let program = programs[i];
-        number = symbols::section_behind(number, program.relocs);
+        number = strtab::section_behind(number, program.relocs);
         i += 1;
     }
     number
@@ -290,7 +290,7 @@ pub fn measure(text: &[u8], table: &mut [u8], object: BpfObject, sizes: Sizes) -
 {
     let maps = object.map_count;
     let count = object.program_count;
-    let first = symbols::first_program(maps);
+    let first = strtab::first_program(maps);
     let before = measure_front(table, sizes, maps);
     let declared = measure_declared(table, before, object, first);
     let whole = measure_tables(table, declared, 2 + maps + count, sizes.strtab);

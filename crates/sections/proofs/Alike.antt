@@ -25,7 +25,7 @@ use Rattle.object.specs.Object.{mapSections, relSections, past, programSections
 use Rattle.contents.specs.Slots.{slotsBytes, AllResolved}
 use Rattle.contents.proofs.Slots.{slots-resolved, part-resolved, resolved-placed}
 use Rattle.strtab.proofs.Whole.{count-declared, programs-there}
-use Rattle.headers.specs.Headers.{headersBytes}
+use Rattle.elf.specs.Headers.{headersBytes}
 use Rattle.measure.specs.Measured.{sectionOf, rowsFrom, rowsOf, sectionsOf, tableSections}
 use Rattle.sections.specs.Pieces.{bare, relPiece, programPieces, mapPieces, tablePieces, allPieces, AllSlotted}
 

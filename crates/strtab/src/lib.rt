@@ -1,4 +1,4 @@
-// The string table of the symbols: its size and its bytes.
+// The string table of the symbols: its size and its bytes. And the numbers of the programs' sections, by which the symbols and the section headers go.
 ghost use mathlib.Core.Path.{_≡_};
 ghost use Prim.Native.Nat.{_+_, _*_, _≤_};
 ghost use lib.ListN.{length, take};
@@ -6,7 +6,7 @@ ghost use Rattle.octets.specs.Over.{over};
 ghost use Rattle.elf.specs.Row.{joined, sizeOf};
 ghost use Rattle.object.specs.Read.{jobIn};
 ghost use Rattle.named.specs.There.{Lent};
-ghost use Rattle.strtab.specs.Rows.{behind, namesIn, programNames, strtabOf, NamesThere, ProgramsThere};
+ghost use Rattle.strtab.specs.Rows.{behind, firstOf, namesIn, programNames, strtabOf, NamesThere, ProgramsThere};
 use ast::Name;
 use object::BpfObject;
 use object::Program;
@@ -122,4 +122,27 @@ pub fn put_strtab<'a>(
     named::put_string_at(out, 2, b"LICENSE");
     let at = put_map_names(out, text, ats, lens, object.map_count);
     put_program_names(out, at, text, programs, object.program_count);
+}
+
+// The section number of the first program: `.maps` and `.BTF` stand before it where there are maps.
+pub fn first_program(maps: usize) -> usize
+    ensures { λ r. ⌜ r ≡ firstOf maps ⌝ }
+    ensures { λ r. ⌜ r ≤ 4 ⌝ }
+{
+    if maps == 0 {
+        return 2;
+    }
+    4
+}
+
+// The number of the section behind a program's sections: a program with relocations has a REL section too.
+pub fn section_behind(section: usize, relocs: u16) -> usize
+    requires { ⌜ section ≤ 1000 ⌝ }
+    ensures { λ r. ⌜ r ≡ behind relocs section ⌝ }
+    ensures { λ r. ⌜ r ≤ section + 2 ⌝ }
+{
+    if relocs == 0 {
+        return section + 1;
+    }
+    section + 2
 }

@@ -5,7 +5,7 @@ ghost use lib.ListN.{length, take};
 ghost use Rattle.octets.specs.Over.{over};
 ghost use Rattle.named.specs.There.{MapsThere, Lent};
 ghost use Rattle.object.specs.Read.{licenceIn, jobIn};
-ghost use Rattle.strtab.specs.Rows.{rowAt, rowSize, mapRow, behind, firstOf, programRow, symtabOf, ProgramsThere};
+ghost use Rattle.strtab.specs.Rows.{rowAt, rowSize, mapRow, programRow, symtabOf, ProgramsThere};
 use ast::MapDecl;
 use ast::Name;
 use elf::Symbol;
@@ -53,18 +53,6 @@ fn put_map_symbols<'a>(
     place
 }
 
-// The number of the section behind a program's sections: a program with relocations has a REL section too.
-pub fn section_behind(section: usize, relocs: u16) -> usize
-    requires { ⌜ section ≤ 1000 ⌝ }
-    ensures { λ r. ⌜ r ≡ behind relocs section ⌝ }
-    ensures { λ r. ⌜ r ≤ section + 2 ⌝ }
-{
-    if relocs == 0 {
-        return section + 1;
-    }
-    section + 2
-}
-
 // The programs' symbols, from `start` on, where the first one's name is at `names` and its section is `first`.
 fn put_program_symbols(
     out: &mut [u8],
@@ -95,21 +83,10 @@ fn put_program_symbols(
         };
         symbol.put(&mut out[at..at + 24]);
         place = place + named::written_size(text, program.symbol) + 1;
-        section = section_behind(section, program.relocs);
+        section = strtab::section_behind(section, program.relocs);
         at += 24;
         i += 1;
     }
-}
-
-// The section number of the first program: `.maps` and `.BTF` stand before it where there are maps.
-pub fn first_program(maps: usize) -> usize
-    ensures { λ r. ⌜ r ≡ firstOf maps ⌝ }
-    ensures { λ r. ⌜ r ≤ 4 ⌝ }
-{
-    if maps == 0 {
-        return 2;
-    }
-    4
 }
 
 // `.symtab`, into a part of exactly its length, where the licence has `license` bytes.
@@ -140,7 +117,7 @@ pub fn put_symtab<'a>(
     };
     symbol.put(&mut out[24..48]);
     let names = put_map_symbols(out, text, maps, ats, lens, count);
-    let first = first_program(count);
+    let first = strtab::first_program(count);
     put_program_symbols(
         out,
         48 + 24 * count,

@@ -9,7 +9,7 @@ use borrow.Rule.Slice.PartMut.{mid-len}
 use Rattle.object.specs.Read.{jobIn}
 use Rattle.object.specs.Object as whole
 use Rattle.named.proofs.Names.{over-front}
-use Rattle.headers.specs.Headers.{headersBytes}
+use Rattle.elf.specs.Headers.{headersBytes}
 use Rattle.measure.specs.declared.Measured.{Measured}
 use Rattle.measure.specs.Measured.{rowsOf, measuredOf}
 use Rattle.maker.proofs.Sizes.{few-sections, count-is, headers-long}

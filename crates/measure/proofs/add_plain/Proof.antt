@@ -7,7 +7,7 @@ use borrow.Author.Needs.{needs}
 use Rattle.octets.specs.Over.{over}
 use Rattle.elf.specs.declared.Section as code
 use Rattle.elf.proofs.Places.{align-near, align-small}
-use Rattle.headers.specs.Headers.{headersBytes}
+use Rattle.elf.specs.Headers.{headersBytes}
 use Rattle.measure.specs.Measured.{withSection}
 use Rattle.measure.proofs.add_plain.Statement.{statement}
 use Rattle.measure.proofs.add_plain.Tie as tie

@@ -13,7 +13,7 @@ use Rattle.elf.specs.declared.Section as code
 use Rattle.elf.proofs.Places.{align-near}
 use Rattle.object.specs.declared.Program.{Program}
 use Rattle.object.specs.Read.{jobIn}
-use Rattle.headers.specs.Headers.{headersBytes}
+use Rattle.elf.specs.Headers.{headersBytes}
 use Rattle.measure.specs.declared.Measuring.{Measuring}
 use Rattle.measure.specs.Measured.{behindAll, front, frontRows, afterPrograms, programRows, afterDeclared, declaredRows, tabled, tableRows, Low}
 use Rattle.measure.proofs.Table.{Has, has-long, has-on, from-zero, front-count, low-front, low-tabled, low-more}

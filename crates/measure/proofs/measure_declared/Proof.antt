@@ -8,7 +8,7 @@ use borrow.Author.Needs.{needs}
 use Rattle.octets.specs.Over.{over}
 use Rattle.octets.proofs.Going.{over-nothing}
 use Rattle.object.specs.declared.Program.{Program}
-use Rattle.headers.specs.Headers.{headersBytes}
+use Rattle.elf.specs.Headers.{headersBytes}
 use Rattle.measure.specs.Measured.{afterPrograms, programRows, afterDeclared, declaredRows}
 use Rattle.measure.proofs.Table.{low-more}
 use Rattle.measure.proofs.measure_declared.Statement.{statement}

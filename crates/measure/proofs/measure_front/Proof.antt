@@ -11,7 +11,7 @@ use borrow.Author.Tests.{eq-eqb, ne-eqb}
 use Rattle.octets.specs.Over.{over}
 use Rattle.elf.specs.Added.{one, four, eight}
 use Rattle.elf.specs.Entries.{nullSection}
-use Rattle.headers.specs.Headers.{headersBytes}
+use Rattle.elf.specs.Headers.{headersBytes}
 use Rattle.measure.specs.declared.Measuring.{Measuring}
 use Rattle.measure.specs.Measured.{withSection, plainOn, begun, licenceAt, licensed, mapsAt, roomed, btfAt, mapped, Low, Small}
 use Rattle.measure.proofs.Table.{Has, has-long, has-on, low-more, low-begun, low-licensed, low-roomed}

@@ -12,7 +12,7 @@ use Rattle.octets.specs.Over.{over}
 use Rattle.elf.specs.Added.{eight}
 use Rattle.elf.specs.declared.Section as code
 use Rattle.elf.proofs.Places.{align-near}
-use Rattle.headers.specs.Headers.{headersBytes}
+use Rattle.elf.specs.Headers.{headersBytes}
 use Rattle.measure.specs.declared.Measuring.{Measuring}
 use Rattle.measure.specs.Measured.{withSection, relAt, codeAt, coded, relOf, programmed, Low}
 use Rattle.measure.proofs.Table.{Has, has-long, has-on, low-coded, low-programmed}

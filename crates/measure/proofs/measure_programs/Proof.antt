@@ -10,8 +10,8 @@ use borrow.Author.Needs.{needs}
 use Rattle.octets.proofs.Going.{Going, go-start, go-as, go-on, go-done}
 use Rattle.object.specs.declared.Program.{Program}
 use Rattle.object.specs.Tables.{noProgram}
-use Rattle.headers.specs.Headers.{headersBytes}
-use Rattle.headers.proofs.Headers.{headers-length, headers-append}
+use Rattle.elf.specs.Headers.{headersBytes}
+use Rattle.elf.proofs.Headers.{headers-length, headers-append}
 use Rattle.strtab.proofs.Rows.{program-from, program-end}
 use Rattle.measure.specs.declared.Measuring.{Measuring}
 use Rattle.measure.specs.Measured.{programmed, programRow, afterPrograms, programRows, Low, ShortNames}

@@ -10,7 +10,7 @@ use Rattle.elf.specs.Elf.{alignTo}
 use Rattle.elf.specs.Added.{one, eight}
 use Rattle.elf.specs.declared.Section as code
 use Rattle.elf.proofs.Places.{align-near}
-use Rattle.headers.specs.Headers.{headersBytes}
+use Rattle.elf.specs.Headers.{headersBytes}
 use Rattle.measure.specs.declared.Measuring.{Measuring}
 use Rattle.measure.specs.Measured.{withSection, plainOn, symtabAt, withSymbols, strtabAt, withStrings, shstrtabAt, tabled, Low}
 use Rattle.measure.proofs.Table.{Has, has-long, has-on, low-symtab, low-strings, low-more}

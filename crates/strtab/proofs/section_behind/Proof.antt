@@ -1,10 +1,10 @@
--- `symbols::section_behind` meets its contract. Assumes nothing.
+-- `strtab::section_behind` meets its contract. Assumes nothing.
 use native.Mathlib.Omega.{arith}
 use native.Mathlib.Numerals.{add-one}
 use borrow.Author.Needs.{needs}
 use borrow.Author.Tests.{eq-eqb, ne-eqb}
-use Rattle.symbols.proofs.section_behind.Statement.{statement}
-use Rattle.symbols.proofs.section_behind.Tie as tie
+use Rattle.strtab.proofs.section_behind.Statement.{statement}
+use Rattle.strtab.proofs.section_behind.Tie as tie
 
 returns : tie.Need-returns
 returns c = (simp (eq-eqb (c .before .args .relocs) 0 (omega arith), add-one), omega arith)

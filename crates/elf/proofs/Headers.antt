@@ -4,10 +4,10 @@ use mathlib.Core.List.{List, [], _∷_, _++_, append-assoc}
 use Prim.Native.Nat.{ℕ, _*_}
 use native.Mathlib.Omega.{arith}
 use lib.ListN.{length}
 use Rattle.elf.specs.Elf.{headerBytes}
 use Rattle.elf.specs.Entries.{headerOf}
 use Rattle.elf.specs.declared.Section.{Section}
-use Rattle.headers.specs.Headers.{headersBytes}
+use Rattle.elf.specs.Headers.{headersBytes}
 
 pub headers-length : (ss : List Section) → length (headersBytes ss) ≡ 64 * length ss
 headers-length [] = refl

@@ -1,9 +1,9 @@
--- `symbols::first_program` meets its contract. Assumes nothing.
+-- `strtab::first_program` meets its contract. Assumes nothing.
 use native.Mathlib.Omega.{arith}
 use borrow.Author.Needs.{needs}
 use borrow.Author.Tests.{eq-eqb, ne-eqb}
-use Rattle.symbols.proofs.first_program.Statement.{statement}
-use Rattle.symbols.proofs.first_program.Tie as tie
+use Rattle.strtab.proofs.first_program.Statement.{statement}
+use Rattle.strtab.proofs.first_program.Tie as tie
 
 returns : tie.Need-returns
 returns c = (simp (eq-eqb (c .before .args .maps) 0 (omega arith)), omega arith)
