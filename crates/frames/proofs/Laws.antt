@@ -16,9 +16,10 @@ use Rattle.insn.specs.Insn.{insnBytes}
 use Rattle.ast.specs.Numbers.{mapType, memberType}
 use Rattle.ast.specs.declared.«Type».{«Type» as MemberType}
 use Rattle.ast.specs.declared.MapType.{MapType}
+use Rattle.ast.specs.declared.TypeAttr.{TypeAttr}
 use Rattle.ast.specs.declared.TypeAttr.the-variants as type
 use Rattle.ast.specs.declared.CountAttr.the-variants as count
-use Rattle.frames.specs.Frames.{licence, mapDecl, program, code, relocation, TypeRead, CountRead, bit, takeType, typeIf, countIf, mapAttrs, mapFrame, programFrame, relocationFrame, instructionFrame, frameOf}
+use Rattle.frames.specs.Frames.{licence, mapDecl, program, code, relocation, TypeRead, CountRead, bit, takeType, typeIf, countIf, mapEntries, mapAttrs, mapFrame, programFrame, relocationFrame, instructionFrame, frameOf}
 
 module _ (s : List ℕ) where
   pub program-short : length s < 2 → none ≡ programFrame (drop 1 s)
@@ -87,6 +88,27 @@ count-some s at n h e = let k : 4 ≤ length (drop at s) = rw length-drop h in s
 
 -- ---- a map's frame, step by step
 
+module _ (t : MapType) (k v : TypeAttr) (p : ℕ) (bs : List ℕ) where
+  pub entries-none : none ≡ countIf (bit 4 p) bs → none ≡ mapEntries t k v p bs
+  entries-none e = rw (← e, mapEntries)
+
+  pub entries-some : (x : CountRead) → some x ≡ countIf (bit 4 p) bs → some (mapDecl t k v (x .attr) (x .rest)) ≡ mapEntries t k v p bs
+  entries-some x e = rw (← e, mapEntries)
+
+module _ (t : MapType) (p : ℕ) (bs : List ℕ) where
+  first : (x : Option TypeRead) → x ≡ typeIf (eqb (p % 2) 1) bs → typeIf (bit 1 p) bs ≡ x
+  first x e = simp div-one (sym e)
+
+  pub attrs-no-key : none ≡ typeIf (eqb (p % 2) 1) bs → none ≡ mapAttrs t p bs
+  attrs-no-key e = rw (first none e, mapAttrs)
+
+  module _ (x : TypeRead) (e : some x ≡ typeIf (eqb (p % 2) 1) bs) where
+    pub attrs-no-value : none ≡ typeIf (bit 2 p) (x .rest) → none ≡ mapAttrs t p bs
+    attrs-no-value e₂ = rw (first (some x) e, ← e₂, mapAttrs)
+
+    pub attrs-types : (y : TypeRead) → some y ≡ typeIf (bit 2 p) (x .rest) → mapEntries t (x .attr) (y .attr) p (y .rest) ≡ mapAttrs t p bs
+    attrs-types y e₂ = sym (rw (first (some x) e, ← e₂, mapAttrs))
+
 module _ (s : List ℕ) (t p : ℕ) (is-t : t ≡ getD s 1 0) (is-p : p ≡ getD s 2 0) (h : 3 ≤ length s) where
   opened : mapFrame (drop 1 s) ≡ mapFrame (t ∷ p ∷ drop 3 s)
   opened =
@@ -101,27 +123,8 @@ module _ (s : List ℕ) (t p : ℕ) (is-t : t ≡ getD s 1 0) (is-p : p ≡ getD
     pub map-presence : 7 < p → none ≡ mapFrame (drop 1 s)
     map-presence g = sym (opened ∙ rw (e, mapFrame) (simp (lt-leb p 7 g)))
 
-    module _ (g : p ≤ 7) where
-      attrs : mapFrame (drop 1 s) ≡ mapAttrs k p (drop 3 s)
-      attrs = opened ∙ rw (e, mapFrame) (simp (le-leb p 7 g))
-
-      first : (x : Option TypeRead) → x ≡ typeIf (eqb (p % 2) 1) (drop 3 s) → typeIf (bit 1 p) (drop 3 s) ≡ x
-      first x e₁ = simp div-one (sym e₁)
-
-      pub map-no-key : none ≡ typeIf (eqb (p % 2) 1) (drop 3 s) → none ≡ mapFrame (drop 1 s)
-      map-no-key e₁ = sym (attrs ∙ rw (first none e₁, mapAttrs))
-
-      module _ (x : TypeRead) (e₁ : some x ≡ typeIf (eqb (p % 2) 1) (drop 3 s)) where
-        pub map-no-value : none ≡ typeIf (bit 2 p) (x .rest) → none ≡ mapFrame (drop 1 s)
-        map-no-value e₂ = sym (attrs ∙ rw (first (some x) e₁, ← e₂, mapAttrs))
-
-        module _ (y : TypeRead) (e₂ : some y ≡ typeIf (bit 2 p) (x .rest)) where
-          pub map-no-count : none ≡ countIf (bit 4 p) (y .rest) → none ≡ mapFrame (drop 1 s)
-          map-no-count e₃ = sym (attrs ∙ rw (first (some x) e₁, ← e₂, ← e₃, mapAttrs))
-
-          pub map-ok : (z : CountRead) → some z ≡ countIf (bit 4 p) (y .rest)
-              → some (mapDecl k (x .attr) (y .attr) (z .attr) (z .rest)) ≡ mapFrame (drop 1 s)
-          map-ok z e₃ = sym (attrs ∙ rw (first (some x) e₁, ← e₂, ← e₃, mapAttrs))
+    pub map-listed : p ≤ 7 → mapAttrs k p (drop 3 s) ≡ mapFrame (drop 1 s)
+    map-listed g = sym (opened ∙ rw (e, mapFrame) (simp (le-leb p 7 g)))
 
 map-short′ : (bs : List ℕ) → length bs < 2 → none ≡ mapFrame bs
 map-short′ [] h = refl

@@ -49,6 +49,11 @@ countIf true bs =
     cond (leb 4 (length bs)) (some (record { attr = count.Present (value (take 4 bs)); rest = drop 4 bs })) none
 countIf false bs = some (record { attr = count.Absent; rest = bs })
 
+-- behind a map's types: max_entries if it is present, then the name
+abbrev pub mapEntries : MapType → TypeAttr → TypeAttr → ℕ → List ℕ → Option Frame
+mapEntries t k v p bs =
+    elim (countIf (bit 4 p) bs) [ none ↦ none | some n ↦ some (mapDecl t k v (n .attr) (n .rest)) ]
+
 -- those present, in the order key, value, max_entries; then the name
 abbrev pub mapAttrs : MapType → ℕ → List ℕ → Option Frame
 mapAttrs t p bs =
@@ -57,11 +62,7 @@ mapAttrs t p bs =
       | some k ↦
           elim (typeIf (bit 2 p) (k .rest)) [
             | none ↦ none
-            | some v ↦
-                elim (countIf (bit 4 p) (v .rest)) [
-                  | none ↦ none
-                  | some n ↦ some (mapDecl t (k .attr) (v .attr) (n .attr) (n .rest))
-                ]
+            | some v ↦ mapEntries t (k .attr) (v .attr) p (v .rest)
           ]
     ]
 

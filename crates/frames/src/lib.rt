@@ -5,7 +5,7 @@ ghost use Prim.Native.Nat.{_≤_};
 ghost use lib.ListN.{length, drop};
 ghost use Rattle.ast.specs.Numbers.{mapType, memberType};
 ghost use Rattle.lines.specs.Hex.{isHex, bytesIn};
-ghost use Rattle.frames.specs.Frames.{programFrame, relocationFrame, instructionFrame, typeIf, countIf, mapFrame, frameOf};
+ghost use Rattle.frames.specs.Frames.{programFrame, relocationFrame, instructionFrame, typeIf, countIf, mapEntries, mapAttrs, mapFrame, frameOf};
 ghost use Rattle.frames.specs.Attrs.{kindOf, numberOf, typeOf, countOf, TypeIn, CountIn};
 ghost use Rattle.frames.specs.Shown.{shown, Placed};
 use ast::CountAttr;
@@ -162,22 +162,44 @@ fn read_count(s: &[u8], at: usize, there: bool) -> CountRead
     }
 }
 
-fn read_map(s: &[u8]) -> Frame
+// The number of entries at byte `at`, if the presence byte `p` says that it is there, and then the name.
+fn read_entries(
+    s: &[u8],
+    at: usize,
+    p: u8,
+    map_type: MapType,
+    key_type: TypeAttr,
+    value_type: TypeAttr,
+) -> Frame
     requires { ⌜ isHex (now s) ≡ true ⌝ }
-    ensures { λ r. ⌜ shown (bytesIn (now (s .entry))) r ≡ mapFrame (drop 1 (bytesIn (now (s .entry)))) ⌝ }
+    requires { ⌜ (3 ≤ at) × (at ≤ length (bytesIn (now s))) ⌝ }
+    ensures { λ r. ⌜ shown (bytesIn (now (s .entry))) r ≡ mapEntries «map_type» «key_type» «value_type» p (drop at (bytesIn (now (s .entry)))) ⌝ }
     ensures { λ r. ⌜ Placed (bytesIn (now (s .entry))) r ⌝ }
 {
-    if s.len() / 2 < 3 {
-        return Frame::Bad;
-    }
-    let listed = map_type_of(lines::byte_at(s, 1));
-    let KindRead::Is(map_type) = listed else {
+    let read = read_count(s, at, p / 4 % 2 == 1);
+    let CountRead::Read {
+        attr: max_entries,
+        next: name,
+    } = read
+    else {
         return Frame::Bad;
     };
-    let p = lines::byte_at(s, 2);
-    if 7 < p {
-        return Frame::Bad;
-    }
+    let decl = MapDecl {
+        map_type,
+        key_type,
+        value_type,
+        max_entries,
+    };
+    Frame::Map { decl, name }
+}
+
+// The attributes that the presence byte `p` says are there, and then the name.
+fn read_attrs(s: &[u8], map_type: MapType, p: u8) -> Frame
+    requires { ⌜ isHex (now s) ≡ true ⌝ }
+    requires { ⌜ 3 ≤ length (bytesIn (now s)) ⌝ }
+    ensures { λ r. ⌜ shown (bytesIn (now (s .entry))) r ≡ mapAttrs «map_type» p (drop 3 (bytesIn (now (s .entry)))) ⌝ }
+    ensures { λ r. ⌜ Placed (bytesIn (now (s .entry))) r ⌝ }
+{
     let first = read_type(s, 3, p % 2 == 1);
     let TypeRead::Read {
         attr: key_type,
@@ -194,21 +216,26 @@ fn read_map(s: &[u8]) -> Frame
     else {
         return Frame::Bad;
     };
-    let third = read_count(s, after_value, p / 4 % 2 == 1);
-    let CountRead::Read {
-        attr: max_entries,
-        next: name,
-    } = third
-    else {
+    read_entries(s, after_value, p, map_type, key_type, value_type)
+}
+
+fn read_map(s: &[u8]) -> Frame
+    requires { ⌜ isHex (now s) ≡ true ⌝ }
+    ensures { λ r. ⌜ shown (bytesIn (now (s .entry))) r ≡ mapFrame (drop 1 (bytesIn (now (s .entry)))) ⌝ }
+    ensures { λ r. ⌜ Placed (bytesIn (now (s .entry))) r ⌝ }
+{
+    if s.len() / 2 < 3 {
+        return Frame::Bad;
+    }
+    let listed = map_type_of(lines::byte_at(s, 1));
+    let KindRead::Is(map_type) = listed else {
         return Frame::Bad;
     };
-    let decl = MapDecl {
-        map_type,
-        key_type,
-        value_type,
-        max_entries,
-    };
-    Frame::Map { decl, name }
+    let p = lines::byte_at(s, 2);
+    if 7 < p {
+        return Frame::Bad;
+    }
+    read_attrs(s, map_type, p)
 }
 
 // The frame that the hexadecimal of a line gives.
