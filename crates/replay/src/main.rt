@@ -189,6 +189,20 @@ fn print(what: &[u8], n: u64) {
     io::write_all(STDOUT_FILENO, what);
 }
 
+// Each accepted job was refused for its room too, so that their count stands in two lines.
+fn print_counts(accepted: u64, refused: u64, differ: u64) {
+    print(
+        b" objects as stored, in 65536 bytes and in just their length\n",
+        accepted,
+    );
+    print(
+        b" refused 8 with the length needed, by one byte and by all\n",
+        accepted,
+    );
+    print(b" refused as stored\n", refused);
+    print(b" that differ\n", differ);
+}
+
 fn main() {
     let fd = os::open_read(b"answers.list");
     if fd < 0 {
@@ -221,14 +235,5 @@ fn main() {
         }
     }
     libc::close(fd);
-    print(
-        b" objects as stored, in 65536 bytes and in just their length\n",
-        accepted,
-    );
-    print(
-        b" refused 8 with the length needed, by one byte and by all\n",
-        accepted,
-    );
-    print(b" refused as stored\n", refused);
-    print(b" that differ\n", differ);
+    print_counts(accepted, refused, differ);
 }

@@ -5,10 +5,10 @@ use Rattle.replay.proofs.main.Statement.{statement}
 use Rattle.replay.proofs.main.Tie as tie
 
 abbrev Inv-loop : tie.InvT-loop
-Inv-loop fd accepted₀ refused₀ differ₀ turns₀ t8 t9 t10 t11 t12 accepted refused differ turns = Unit
+Inv-loop fd accepted₀ refused₀ differ₀ turns₀ t8 accepted refused differ turns = Unit
 
 abbrev μ-loop : tie.MeasureT-loop
-μ-loop fd accepted₀ refused₀ differ₀ turns₀ t8 t9 t10 t11 t12 accepted refused differ turns = 1000000 - turns
+μ-loop fd accepted₀ refused₀ differ₀ turns₀ t8 accepted refused differ turns = 1000000 - turns
 
 returns : tie.Need-returns Inv-loop μ-loop
 returns c = tt
@@ -54,7 +54,5 @@ main-spec =
     loop-again-4
     (search needs) (search needs)
     loop-again-5
-    (search needs) (search needs) (search needs) (search needs)
-    (search needs) (search needs) (search needs)
     (search needs) (search needs)
     returns-2)
