@@ -161,11 +161,8 @@ fn judge_relocation<'a>(
         return Verdict::Refused(Refusal::Misplaced(line));
     }
     let from = at + 18;
-    let fault = flaws::fault_of(
-        flaws::name_flaw(&text[from..end]),
-        256 <= counts.relocs,
-        line,
-    );
+    let flaw = flaws::name_flaw(&text[from..end]);
+    let fault = flaws::fault_of(flaw, 256 <= counts.relocs, line);
     match fault {
         Fault::Is(r) => Verdict::Refused(r),
         Fault::Nothing => match lookup::find_map(text, ats, lens, maps, &text[from..end]) {
