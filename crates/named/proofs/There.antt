@@ -34,7 +34,7 @@ pub maps-from : (text : List ℕ) (ds : List MapDecl) (ats lens : List ℕ) (n i
     ≡ mapIn text (getD ds i noMap) (getD ats i 0) (getD lens i 0) ∷ drop (i + 1) (mapsIn text (take n ds) (take n ats) (take n lens))
 maps-from text ds ats lens n i m h =
     rw (add-one i)
-    (next-map text ds ats lens n i h (omega (arith, m .few, m .decls-long)) (omega (arith, m .few, m .ats-long)) (omega (arith, m .few, m .lens-long)))
+    (next-map text ds ats lens n i h (omega (arith, m .names .few, m .decls-long)) (omega (arith, m .names .few, m .names .ats-long)) (omega (arith, m .names .few, m .names .lens-long)))
 
 -- no map is behind the last
 pub maps-end : (text : List ℕ) (ds : List MapDecl) (ats lens : List ℕ) (n i : ℕ) → n ≤ i → drop i (mapsIn text (take n ds) (take n ats) (take n lens)) ≡ []
@@ -49,7 +49,10 @@ maps-end text (d ∷ ds) (a ∷ ats) (l ∷ lens) (suc n) (suc i) h = maps-end t
 pub kept-maps : (text : List ℕ) (o : BpfObject) → Kept text o → MapsThere text (o .maps) (o .«map_at») (o .«map_len») (o .«map_count»)
 kept-maps text o k =
     let s = k .sound in
-    record { few = s .few-maps; decls-long = s .maps; ats-long = s .ats; lens-long = s .lens; named = k .maps }
+    record {
+      names = record { few = s .few-maps; ats-long = s .ats; lens-long = s .lens; named = k .maps };
+      decls-long = s .maps;
+    }
 
 -- the same of the places that are lent
 pub lent-maps : {text : List ℕ} {o : BpfObject} {ats lens : List ℕ} → Lent text o ats lens → MapsThere text (o .maps) ats lens (o .«map_count»)

@@ -39,13 +39,13 @@ module _ (text : List ℕ) (maps : List MapDecl) (ats lens : List ℕ) (count : 
   all = theMaps text maps ats lens count
 
   decls : length (take count maps) ≡ count
-  decls = length-take-le count maps (omega (arith, m .few, m .decls-long))
+  decls = length-take-le count maps (omega (arith, m .names .few, m .decls-long))
 
   places : length (take count ats) ≡ count
-  places = length-take-le count ats (omega (arith, m .few, m .ats-long))
+  places = length-take-le count ats (omega (arith, m .names .few, m .names .ats-long))
 
   sizes : length (take count lens) ≡ count
-  sizes = length-take-le count lens (omega (arith, m .few, m .lens-long))
+  sizes = length-take-le count lens (omega (arith, m .names .few, m .names .lens-long))
 
   pub maps-count : length all ≡ count
   maps-count = count-maps text (take count maps) (take count ats) (take count lens) (omega (arith, decls, places)) (omega (arith, decls, sizes)) ∙ decls
@@ -93,7 +93,7 @@ module _ (text : List ℕ) (maps : List MapDecl) (ats lens : List ℕ) (count : 
       pub maps-room : Within (moved b₁ (length (bytesAt (b₁ .strings) (typesOf (b₁ .«next_type_id») all))) (92 * count) (8 * count)) (length out₁)
       maps-room =
           subst (λ (b : BtfBuilder). Within (moved b (length (bytesAt (b .strings) (typesOf (b .«next_type_id») all))) (92 * count) (8 * count)) (length out₁)) (sym q₁)
-          (record { at = go-room mapsPart sectionPart ints-left; strings = omega (arith, m .few); next = omega (arith, m .few) })
+          (record { at = go-room mapsPart sectionPart ints-left; strings = omega (arith, m .names .few); next = omega (arith, m .names .few) })
 
       module _ (out₂ : List ℕ) (b₂ : BtfBuilder) (e₂ : out₂ ≡ over out₁ (b₁ .at) (bytesAt (b₁ .strings) (typesOf (b₁ .«next_type_id») all))) (q₂ : b₂ ≡ mapsBuilt b₁ all)
           (s₂ : (b₂ .strings ≤ b₁ .strings + 92 * count) × (b₂ .«next_type_id» ≤ b₁ .«next_type_id» + 8 * count)) where
@@ -113,8 +113,8 @@ module _ (text : List ℕ) (maps : List MapDecl) (ats lens : List ℕ) (count : 
             let n = ap (λ (b : BtfBuilder). b .«next_type_id») q₁ in
             record {
               at = omega (arith, go-room sectionPart [] maps-left, length-section);
-              strings = omega (arith, m .few, s₂ .0);
-              next = omega (arith, m .few, s₂ .1);
+              strings = omega (arith, m .names .few, s₂ .0);
+              next = omega (arith, m .names .few, s₂ .1);
             }
 
         pub types-left : (out₃ : List ℕ) → out₃ ≡ over out₂ (b₂ .at) (sectionBytes (b₂ .strings) count (take count maps)) → out₃ ≡ whole

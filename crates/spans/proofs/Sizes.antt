@@ -143,5 +143,5 @@ module _ (text : List ℕ) (maps : List MapDecl) (ats lens : List ℕ) (count : 
       let e = maps-end text maps ats lens count i h in (
         omega (arith, t .types-is, ap spans e, ap length (types-built (btfTypes all))),
         omega (arith, t .strings-is, ap (λ (ms : List Map). length (mapsStrings ms)) e, ap length (strings-are all)),
-        omega (arith, t .types-small, t .strings-small, t .few, t .there .few),
+        omega (arith, t .types-small, t .strings-small, t .few, t .there .names .few),
       )

@@ -81,7 +81,7 @@ module _ (text : List ℕ) (maps : List MapDecl) (ats lens : List ℕ) (count : 
 
     pub types-on : (out′ : List ℕ) (b′ : BtfBuilder) → out′ ≡ over out (b .at) here → b′ ≡ mapBuilt b (mapAt i) → TypesTurn b₀ out₀ out′ b′ (i + 1)
     types-on out′ b′ e q =
-        let short = written-most text (record { at = getD ats i 0; len = getD lens i 0 }) (t .there .named i h) in
+        let short = written-most text (record { at = getD ats i 0; len = getD lens i 0 }) (t .there .names .named i h) in
         let g = map-grows b (getD maps i noMap) (mapAt i .name) short in
         rw q
         (record {

@@ -22,10 +22,10 @@ use Rattle.object.specs.Read.{mapIn, mapsIn, bytesAt, nameIn}
 use Rattle.object.specs.Object.{mapSymbols}
 use Rattle.object.proofs.Read.{count-maps}
 use Rattle.object.proofs.Counts.{count-map-symbols}
-use Rattle.named.specs.There.{MapsThere}
+use Rattle.named.specs.There.{NamesThere, MapsThere}
 use Rattle.named.proofs.Names.{written-most}
 use Rattle.named.proofs.There.{maps-from, maps-end}
-use Rattle.strtab.specs.Rows.{rowAt, rowSize, mapRow, behind, programRow, namesIn, programNames, NamesThere, ProgramsThere}
+use Rattle.strtab.specs.Rows.{rowAt, rowSize, mapRow, behind, programRow, namesIn, programNames, ProgramsThere}
 
 -- ---- any row
 
@@ -60,7 +60,7 @@ module _ (text : List ℕ) (ds : List MapDecl) (ats lens : List ℕ) (count : �
   pub map-start : MapsThere text ds ats lens count → (d : List ℕ) → 48 + 24 * count ≤ length d → MapTurn d d 48 10 0 0
   map-start there d h =
       let n : length ms ≡ count =
-      count-maps text ds ats lens count (omega (arith, there .few, there .decls-long)) (omega (arith, there .few, there .ats-long)) (omega (arith, there .few, there .lens-long)) in
+      count-maps text ds ats lens count (omega (arith, there .names .few, there .decls-long)) (omega (arith, there .names .few, there .names .ats-long)) (omega (arith, there .names .few, there .names .lens-long)) in
       record {
         most = omega arith;
         going = go-start d 48 (rowAt 10 whole) (omega (arith, row-length 10 whole, count-map-symbols 0 ms));
@@ -93,7 +93,7 @@ module _ (text : List ℕ) (ds : List MapDecl) (ats lens : List ℕ) (count : �
         most = omega arith;
         going = on;
         size = omega (arith, t .size, names);
-        near = omega (arith, t .near, g, written-most text (record { at = getD ats i 0; len = getD lens i 0 }) (there .named i h));
+        near = omega (arith, t .near, g, written-most text (record { at = getD ats i 0; len = getD lens i 0 }) (there .names .named i h));
         small = omega (arith, t .small, e, map-size m);
         where-at = omega (arith, t .where-at);
         long = on .same;

@@ -28,7 +28,7 @@ use Rattle.object.proofs.Read.{count-maps}
 use Rattle.object.proofs.Counts.{count-map-symbols}
 use Rattle.object.proofs.Programs.{kept-more}
 use Rattle.named.specs.There.{Lent}
-use Rattle.strtab.specs.Rows.{rowAt, rowSize, mapRow, behind, firstOf, programRow, namesIn, programNames, symtabOf, strtabOf, NamesThere, ProgramsThere}
+use Rattle.strtab.specs.Rows.{rowAt, rowSize, mapRow, behind, firstOf, programRow, namesIn, programNames, symtabOf, strtabOf, ProgramsThere}
 use Rattle.strtab.proofs.Rows.{row-is, row-length, length-programs}
 
 -- ---- rows
@@ -90,9 +90,6 @@ module _ (text : List ℕ) (o : BpfObject) (k : Kept text o) where
         long = k .sound .programs;
         kept = kept-more text (o .«reloc_count») 256 (take (o .«program_count») (o .programs)) (k .sound .few-slots) (k .programs);
       }
-
-  pub names-there : NamesThere text (o .«map_at») (o .«map_len») (o .«map_count»)
-  names-there = record { few = k .sound .few-maps; ats-long = k .sound .ats; lens-long = k .sound .lens; named = k .maps }
 
   abbrev mapped : List Symbol
   mapped = mapRow text (o .maps) (o .«map_at») (o .«map_len») (o .«map_count»)
@@ -222,9 +219,6 @@ module _ (text : List ℕ) (o : BpfObject) (k : Kept text o) where
       )
 
 -- the places of the names that are lent are those of the tables
-pub lent-names : {text : List ℕ} {o : BpfObject} {ats lens : List ℕ} → Lent text o ats lens → NamesThere text ats lens (o .«map_count»)
-lent-names {text} {o} l = rw (l .ats-are, l .lens-are) (names-there text o (l .kept))
-
 pub lent-same : {text : List ℕ} {o : BpfObject} {ats lens : List ℕ} (n : ℕ) → Lent text o ats lens
     → namesIn text (take n ats) (take n lens) ≡ namesIn text (take n (o .«map_at»)) (take n (o .«map_len»))
 lent-same n l = rw (l .ats-are, l .lens-are)

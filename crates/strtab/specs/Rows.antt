@@ -61,13 +61,7 @@ symtabOf j = symbolsBytes (addStrings emptyTable (map (λ s. s .name) (symbols j
 abbrev pub strtabOf : Job → List ℕ
 strtabOf j = addStrings emptyTable (map (λ s. s .name) (symbols j)) .table
 
--- what is known of the maps' names alone, and of the programs
-pub record NamesThere (text ats lens : List ℕ) (count : ℕ) : Type 0 where
-  pub few : count ≤ 64
-  pub ats-long : length ats ≡ 64
-  pub lens-long : length lens ≡ 64
-  pub named : (i : ℕ) → i < count → Named text (record { at = getD ats i 0; len = getD lens i 0 })
-
+-- what is known of the programs' table
 pub record ProgramsThere (text : List ℕ) (ps : List Program) (count : ℕ) : Type 0 where
   pub few : count ≤ 32
   pub long : length ps ≡ 32

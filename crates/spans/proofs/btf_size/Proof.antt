@@ -19,23 +19,23 @@ loop-holds c =
     size-start (a .text .now) (a .t2) (a .ats .now) (a .lens .now) (a .count) (p .pre)
 
 array-copy-out-map : tie.Need-array-copy-out-map Inv-loop μ-loop
-array-copy-out-map c = let m = c .before .loop .inv .there in omega (arith, m .few)
+array-copy-out-map c = let m = c .before .loop .inv .there in omega (arith, m .names .few)
 
 shared-slice-read-t18 : tie.Need-shared-slice-read-t18 Inv-loop μ-loop
-shared-slice-read-t18 c = let m = c .before .before .before .loop .inv .there in omega (arith, m .few, m .ats-long)
+shared-slice-read-t18 c = let m = c .before .before .before .loop .inv .there in omega (arith, m .names .few, m .names .ats-long)
 
 shared-slice-read-t21 : tie.Need-shared-slice-read-t21 Inv-loop μ-loop
-shared-slice-read-t21 c = let m = c .before .before .before .before .loop .inv .there in omega (arith, m .few, m .lens-long)
+shared-slice-read-t21 c = let m = c .before .before .before .before .loop .inv .there in omega (arith, m .names .few, m .names .lens-long)
 
 add-types : tie.Need-add-types Inv-loop μ-loop
 add-types c =
     let l = c .before .before .before .before .before .loop .inv in
-    omega (arith, c .map-span .ensures .1, l .types-small, l .few, l .there .few)
+    omega (arith, c .map-span .ensures .1, l .types-small, l .few, l .there .names .few)
 
 written-size-requires : tie.Need-written-size-requires Inv-loop μ-loop
 written-size-requires c κs =
     let l = c .before .before .before .before .before .before .loop in
-    l .inv .there .named (l .i) (omega arith)
+    l .inv .there .names .named (l .i) (omega arith)
 
 add-strings-2 : tie.Need-add-strings-2 Inv-loop μ-loop
 add-strings-2 c = omega (arith, c .written-size .ensures .1, c .before .names-span .ensures .1)
@@ -43,7 +43,7 @@ add-strings-2 c = omega (arith, c .written-size .ensures .1, c .before .names-sp
 add-strings-3 : tie.Need-add-strings-3 Inv-loop μ-loop
 add-strings-3 c =
     let l = c .before .before .before .before .before .before .before .loop .inv in
-    omega (arith, c .written-size .ensures .1, c .before .names-span .ensures .1, l .strings-small, l .few, l .there .few)
+    omega (arith, c .written-size .ensures .1, c .before .names-span .ensures .1, l .strings-small, l .few, l .there .names .few)
 
 loop-again : tie.Need-loop-again Inv-loop μ-loop
 loop-again c =

@@ -19,18 +19,18 @@ loop-holds c =
     strings-start (a .text .now) (a .t4) (a .ats .now) (a .lens .now) (a .count) (a .at) (a .out .now) (p .pre .0) (p .pre .1)
 
 shared-slice-read-t15 : tie.Need-shared-slice-read-t15 Inv-loop μ-loop
-shared-slice-read-t15 c = let m = c .before .before .loop .inv .there in omega (arith, m .few, m .ats-long)
+shared-slice-read-t15 c = let m = c .before .before .loop .inv .there in omega (arith, m .names .few, m .names .ats-long)
 
 shared-slice-read-t18 : tie.Need-shared-slice-read-t18 Inv-loop μ-loop
-shared-slice-read-t18 c = let m = c .before .before .before .loop .inv .there in omega (arith, m .few, m .lens-long)
+shared-slice-read-t18 c = let m = c .before .before .before .loop .inv .there in omega (arith, m .names .few, m .names .lens-long)
 
 array-copy-out-put-map-strings : tie.Need-array-copy-out-put-map-strings Inv-loop μ-loop
-array-copy-out-put-map-strings c = let m = c .before .before .before .before .loop .inv .there in omega (arith, m .few)
+array-copy-out-put-map-strings c = let m = c .before .before .before .before .loop .inv .there in omega (arith, m .names .few)
 
 put-map-strings-requires : tie.Need-put-map-strings-requires Inv-loop μ-loop
 put-map-strings-requires c κs =
     let l = c .before .before .before .before .before .loop in
-    (l .inv .there .named (l .i) (omega arith), strings-room _ _ _ _ _ (l .inv) (omega arith))
+    (l .inv .there .names .named (l .i) (omega arith), strings-room _ _ _ _ _ (l .inv) (omega arith))
 
 loop-again : tie.Need-loop-again Inv-loop μ-loop
 loop-again c =

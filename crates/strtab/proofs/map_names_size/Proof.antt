@@ -6,7 +6,8 @@ use native.Mathlib.Omega.{arith}
 use lib.ListN.{length, take, drop, getD}
 use borrow.Author.Needs.{needs}
 use Rattle.elf.specs.Row.{sizeOf}
-use Rattle.strtab.specs.Rows.{namesIn, NamesThere}
+use Rattle.named.specs.There.{NamesThere}
+use Rattle.strtab.specs.Rows.{namesIn}
 use Rattle.strtab.proofs.Rows.{name-from, name-end}
 use Rattle.strtab.proofs.map_names_size.Statement.{statement}
 use Rattle.strtab.proofs.map_names_size.Tie as tie

@@ -9,7 +9,8 @@ use Rattle.octets.proofs.Going.{Going, go-start}
 use Rattle.written.specs.Written.{written}
 use Rattle.elf.specs.Row.{joined}
 use Rattle.object.specs.Read.{bytesAt}
-use Rattle.strtab.specs.Rows.{namesIn, NamesThere}
+use Rattle.named.specs.There.{NamesThere}
+use Rattle.strtab.specs.Rows.{namesIn}
 use Rattle.strtab.proofs.Rows.{names-on, names-room, names-done, name-from, name-end}
 use Rattle.strtab.proofs.put_map_names.Statement.{statement}
 use Rattle.strtab.proofs.put_map_names.Tie as tie

@@ -9,7 +9,8 @@ use borrow.Rule.Slice.PartMut.{mid-len}
 use Rattle.octets.specs.Octets.{zeros, ascii}
 use Rattle.octets.proofs.Filling.{fill-room}
 use Rattle.elf.specs.Row.{joined}
-use Rattle.strtab.proofs.Whole.{strtab-long, lent-names, lent-same, programs-there, strings-zeros, strings-licence, strings-maps, strings-programs, mapNames, programNamed}
+use Rattle.named.proofs.There.{lent-maps}
+use Rattle.strtab.proofs.Whole.{strtab-long, lent-same, programs-there, strings-zeros, strings-licence, strings-maps, strings-programs, mapNames, programNamed}
 use Rattle.strtab.proofs.put_strtab.Statement.{statement}
 use Rattle.strtab.proofs.put_strtab.Tie as tie
 
@@ -42,7 +43,7 @@ put-map-names-requires c κs =
     let a = p .args in
     let f = strings-zeros (a .text .now) (a .object) (p .pre .0 .kept) (a .out .now) _ (p .pre .1) (z .clear .ensures ∙ ap zeros (two z)) in
     let g = strings-licence (a .text .now) (a .object) (p .pre .0 .kept) _ _ f (u .put-string-at .ensures .0) in
-    (lent-names (p .pre .0), rw (lent-same (a .object .«map_count») (p .pre .0)) (fill-room (joined (mapNames (a .text .now) (a .object) (p .pre .0 .kept))) _ g))
+    (lent-maps (p .pre .0) .names, rw (lent-same (a .object .«map_count») (p .pre .0)) (fill-room (joined (mapNames (a .text .now) (a .object) (p .pre .0 .kept))) _ g))
 
 put-program-names-requires : tie.Need-put-program-names-requires
 put-program-names-requires c κs =

@@ -6,14 +6,15 @@ use native.Mathlib.Omega.{arith}
 use lib.ListN.{length, take, drop, getD}
 use borrow.Author.Needs.{needs}
 use Rattle.elf.specs.Row.{sizeOf}
-use Rattle.strtab.proofs.Whole.{strtab-long, programs-there, lent-names, lent-same}
+use Rattle.named.proofs.There.{lent-maps}
+use Rattle.strtab.proofs.Whole.{strtab-long, programs-there, lent-same}
 use Rattle.strtab.proofs.strtab_size.Statement.{statement}
 use Rattle.strtab.proofs.strtab_size.Tie as tie
 
 map-names-size-requires : tie.Need-map-names-size-requires
 map-names-size-requires c κs =
     let p = c .before .before .before .before in
-    lent-names (p .pre)
+    lent-maps (p .pre) .names
 
 program-names-size-requires : tie.Need-program-names-size-requires
 program-names-size-requires c κs =

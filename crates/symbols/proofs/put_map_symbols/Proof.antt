@@ -64,7 +64,7 @@ add-value c =
 written-size-requires : tie.Need-written-size-requires Inv-loop μ-loop
 written-size-requires c κs =
     let l = c .before .before .before .before .before .before .before .before .before .loop in
-    l .inv .0 .named (l .i) (omega arith)
+    l .inv .0 .names .named (l .i) (omega arith)
 
 loop-again : tie.Need-loop-again Inv-loop μ-loop
 loop-again c =

@@ -19,18 +19,18 @@ loop-holds c =
     types-start (a .text .now) (a .t4) (a .ats .now) (a .lens .now) (a .count) (a .b) (a .out .now) (p .pre .0) (p .pre .1)
 
 shared-slice-read-t15 : tie.Need-shared-slice-read-t15 Inv-loop μ-loop
-shared-slice-read-t15 c = let m = c .before .before .loop .inv .there in omega (arith, m .few, m .ats-long)
+shared-slice-read-t15 c = let m = c .before .before .loop .inv .there in omega (arith, m .names .few, m .names .ats-long)
 
 shared-slice-read-t18 : tie.Need-shared-slice-read-t18 Inv-loop μ-loop
-shared-slice-read-t18 c = let m = c .before .before .before .loop .inv .there in omega (arith, m .few, m .lens-long)
+shared-slice-read-t18 c = let m = c .before .before .before .loop .inv .there in omega (arith, m .names .few, m .names .lens-long)
 
 array-copy-out-add-map : tie.Need-array-copy-out-add-map Inv-loop μ-loop
-array-copy-out-add-map c = let m = c .before .before .before .before .loop .inv .there in omega (arith, m .few)
+array-copy-out-add-map c = let m = c .before .before .before .before .loop .inv .there in omega (arith, m .names .few)
 
 add-map-requires : tie.Need-add-map-requires Inv-loop μ-loop
 add-map-requires c κs =
     let l = c .before .before .before .before .before .loop in
-    (l .inv .there .named (l .i) (omega arith), types-room _ _ _ _ _ (l .inv) (omega arith))
+    (l .inv .there .names .named (l .i) (omega arith), types-room _ _ _ _ _ (l .inv) (omega arith))
 
 loop-again : tie.Need-loop-again Inv-loop μ-loop
 loop-again c =

@@ -27,7 +27,7 @@ add-maps-section-requires c κs =
     let p = i .before .before .before .before .before .before in
     let a = p .args in
     let m = p .pre .0 in (
-      (m .few, m .decls-long),
+      (m .names .few, m .decls-long),
       section-room (a .text .now) (a .maps) (a .ats .now) (a .lens .now) (a .count) m (a .out .now) (p .pre .1) _ (i .add-ints .result) (i .add-ints .ensures .0)
           (i .add-ints .ensures .1) _ (z .add-maps .result) (z .add-maps .ensures .0) (z .add-maps .ensures .1 .0) (z .add-maps .ensures .1 .1),
     )
