@@ -26,7 +26,7 @@ use Rattle.object.specs.Tables.{emptySlot}
 use Rattle.object.specs.Read.{bytesAt, licenceIn, entryIn, slotIn, relocationsIn, declaredMaps}
 use Rattle.object.specs.Kept.{Named, LicenceNamed, ResolvedEntry, ResolvedSlot, Kept}
 use Rattle.object.proofs.Names.{name-length}
-use Rattle.contents.specs.Slots.{licenceLen, entryBytes, slotBytes, slotsBytes, PlacedEntry, PlacedSlot, AllPlaced, AllResolved}
+use Rattle.contents.specs.Slots.{licenceLen, takenBytes, slotBytes, slotsBytes, PlacedEntry, PlacedSlot, AllPlaced, AllResolved}
 
 -- ---- the licence
 
@@ -41,7 +41,7 @@ text-named text l n e k = rw e at k
 -- ---- resolved slots
 
 entry-resolved : (text : List ℕ) (ms : List Map) (e : Entry) (place len number : ℕ) → ResolvedEntry text ms e place len number
-    → entryBytes text e place number ≡ relBytes (entryIn text e place len .offset) (mapSymbol ms (entryIn text e place len .map))
+    → takenBytes text e place number ≡ relBytes (entryIn text e place len .offset) (mapSymbol ms (entryIn text e place len .map))
 entry-resolved text ms Empty place len number r = absurd r
 entry-resolved text ms Taken place len number r = rw (r .last, mapSymbol)
 
@@ -99,7 +99,7 @@ slots-length text [] k = refl
 slots-length text (s ∷ ss) k =
     omega (arith, length-append (slotBytes text s) (slotsBytes text ss), entry-length text (s .entry) (s .place) (s .len) (s .map) (k .0), slots-length text ss (k .1))
   where
-    entry-length : (text : List ℕ) (e : Entry) (place len map : ℕ) → PlacedEntry text e place len → length (entryBytes text e place map) ≡ 16
+    entry-length : (text : List ℕ) (e : Entry) (place len map : ℕ) → PlacedEntry text e place len → length (takenBytes text e place map) ≡ 16
     entry-length text Empty place len map k = absurd k
     entry-length text Taken place len map k = refl
 
@@ -129,7 +129,7 @@ module _ (text : List ℕ) (slots : List Slot) (first count i : ℕ) (inside : f
       record {
         inside = omega (arith, g .0);
         hex = g .1;
-        bytes = ap (slotsBytes text) (rw z at slot-next) ∙ ap (λ (x : Entry). entryBytes text x (s .place) (s .map) ++ slotsBytes text more) e;
+        bytes = ap (slotsBytes text) (rw z at slot-next) ∙ ap (λ (x : Entry). takenBytes text x (s .place) (s .map) ++ slotsBytes text more) e;
         placed = f .1;
       }
 

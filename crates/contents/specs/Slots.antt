@@ -23,12 +23,12 @@ licenceLen (Text n) = n .len
 
 -- A slot gives one entry: its offset stands in the text, and its map's symbol follows the null symbol, LICENSE and the maps before it. An
 -- empty slot gives none.
-abbrev pub entryBytes : List ℕ → Entry → ℕ → ℕ → List ℕ
-entryBytes text Empty place map = []
-entryBytes text Taken place map = relBytes (value (bytesAt text place 8)) (2 + map)
+abbrev pub takenBytes : List ℕ → Entry → ℕ → ℕ → List ℕ
+takenBytes text Empty place map = []
+takenBytes text Taken place map = relBytes (value (bytesAt text place 8)) (2 + map)
 
 abbrev pub slotBytes : List ℕ → Slot → List ℕ
-slotBytes text s = entryBytes text (s .entry) (s .place) (s .map)
+slotBytes text s = takenBytes text (s .entry) (s .place) (s .map)
 
 -- Slots in a row give their entries in the same order.
 abbrev pub slotsBytes : List ℕ → List Slot → List ℕ
