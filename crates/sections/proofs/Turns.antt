@@ -14,7 +14,7 @@ use Rattle.ast.specs.Job.{Map}
 use Rattle.btf.specs.Btf.{btfBytes}
 use Rattle.btf.specs.Maps.{mapTypes, btfTypes}
 use Rattle.octets.proofs.Lists.{All, all-append}
-use Rattle.octets.proofs.Going.{Going, go-start, go-as, go-on, go-done}
+use Rattle.octets.proofs.Going.{Going, over-nothing, go-start, go-as, go-on, go-done}
 use Rattle.elf.specs.Elf.{Section, place, after, endOf, laid}
 use Rattle.elf.specs.Added.{Alignment}
 use Rattle.elf.proofs.Places.{Aligned, end-after, length-laid}
@@ -88,6 +88,10 @@ rels-long text slots p l h a =
     slots-length text (take (p .relocs) (drop (p .first) slots)) a ∙ ap (λ (k : ℕ). 16 * k) n
 
 -- ---- maps
+
+-- where no section is to be written the output and the end stay as they are
+pub nothing-laid : (out : List ℕ) (end : ℕ) (ss : List Section) → ss ≡ [] → (out ≡ over out end (laid end ss)) × (end ≡ endOf end ss)
+nothing-laid out end ss e = (sym (ap (λ (x : List Section). over out end (laid end x)) e ∙ over-nothing out end), sym (ap (endOf end) e))
 
 pub no-maps : (count : ℕ) (ms : List Map) → count ≡ 0 → mapPieces count ms ≡ []
 no-maps count ms e = rw (eq-eqb count 0 e)

@@ -2,8 +2,8 @@
 use mathlib.Core.Bool.{cond}
 use mathlib.Core.List.{List, [], _∷_, _++_, map}
 use mathlib.Core.Path.{_≡_}
-use Prim.Native.Nat.{ℕ, suc, _+_, _≤_, _<_}
-use lib.ListN.{length, take, getD}
+use Prim.Native.Nat.{ℕ, suc, _+_, _≤_}
+use lib.ListN.{length, take}
 use lib.Dec.{eqb}
 use Rattle.written.specs.Written.{written}
 use Rattle.ast.specs.Job.{Map, Job}
@@ -12,7 +12,7 @@ use Rattle.elf.specs.Strings.{addStrings, emptyTable}
 use Rattle.elf.specs.Elf.{Symbol, symbolInfo, symbolBytes, symbolsBytes}
 use Rattle.object.specs.declared.Program.{Program}
 use Rattle.object.specs.Read.{bytesAt, nameIn, mapsIn}
-use Rattle.object.specs.Kept.{Named, AllKept}
+use Rattle.object.specs.Kept.{AllKept}
 use Rattle.object.specs.Object.{mapSymbols, symbols}
 
 -- the entries of symbols, the first of whose names is at `n`

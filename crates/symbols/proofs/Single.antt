@@ -1,6 +1,6 @@
 -- Single outcomes: two outcomes that meet the promise of a public function of this crate are equal.
 use mathlib.Core.Path.{sym, _∙_}
-use Rattle.octets.proofs.Single.{OneResult, OneExit}
+use Rattle.octets.proofs.Single.{OneExit}
 use Rattle.symbols.proofs.put_symtab.Kinds as put-symtab-kinds
 use Rattle.symbols.proofs.put_symtab.Reads as put-symtab
 

@@ -7,7 +7,6 @@ use lib.ListN.{length, length-replicate}
 use borrow.Author.Needs.{needs}
 use Rattle.octets.specs.Octets.{zeros}
 use Rattle.octets.specs.Over.{over}
-use Rattle.octets.proofs.Going.{over-nothing}
 use Rattle.elf.specs.Elf.{Section, laid, endOf}
 use Rattle.elf.specs.Added.{four, eight}
 use Rattle.btf.specs.Btf.{btfBytes}
@@ -15,15 +14,15 @@ use Rattle.btf.specs.Maps.{mapTypes, btfTypes}
 use Rattle.object.specs.Read.{declaredMaps}
 use Rattle.named.proofs.There.{kept-maps}
 use Rattle.sections.specs.Pieces.{bare, mapPieces, Fits}
-use Rattle.sections.proofs.Turns.{Turn, turn-start, turn-fits, turn-on, turn-done, no-maps, some-maps, zeros-piece}
+use Rattle.sections.proofs.Turns.{Turn, turn-start, turn-fits, turn-on, turn-done, nothing-laid, no-maps, some-maps, zeros-piece}
 use Rattle.sections.proofs.write_maps.Statement.{statement}
 use Rattle.sections.proofs.write_maps.Tie as tie
 
 returns : tie.Need-returns
 returns c =
     let a = c .before .before .before .before .before .before .args in
-    let e = no-maps (a .object .«map_count») (declaredMaps (a .text .now) (a .object)) (omega arith) in
-    (sym (ap (λ (ss : List Section). over (a .out .now) (a .end) (laid (a .end) ss)) e ∙ over-nothing (a .out .now) (a .end)), sym (ap (endOf (a .end)) e))
+    let ms = declaredMaps (a .text .now) (a .object) in
+    nothing-laid (a .out .now) (a .end) (mapPieces (a .object .«map_count») ms) (no-maps (a .object .«map_count») ms (omega arith))
 
 -- before `.maps`, where there are maps
 begun : (c : tie.Else1) →

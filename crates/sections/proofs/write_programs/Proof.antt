@@ -1,15 +1,12 @@
 -- `sections::write_programs` meets its contract: with no program no section is written. Assumes nothing.
-use mathlib.Core.Path.{_≡_, sym, _∙_, ap}
-use mathlib.Core.List.{List, []}
+use mathlib.Core.Path.{_≡_, ap}
 use Prim.Native.Nat.{ℕ}
 use native.Mathlib.Omega.{arith}
 use lib.ListN.{take}
 use borrow.Author.Needs.{needs}
-use Rattle.octets.specs.Over.{over}
-use Rattle.octets.proofs.Going.{over-nothing}
-use Rattle.elf.specs.Elf.{Section, laid, endOf}
 use Rattle.strtab.proofs.Whole.{programs-there}
 use Rattle.sections.specs.Pieces.{programPieces}
+use Rattle.sections.proofs.Turns.{nothing-laid}
 use Rattle.sections.proofs.Alike.{all-slotted}
 use Rattle.sections.proofs.write_programs.Statement.{statement}
 use Rattle.sections.proofs.write_programs.Tie as tie
@@ -18,9 +15,8 @@ returns : tie.Need-returns
 returns c =
     let a = c .before .before .before .args in
     let n : a .object .«program_count» ≡ 0 = omega arith in
-    let e : programPieces (a .text .now) (a .object .slots) (take (a .object .«program_count») (a .object .programs)) ≡ [] =
-    ap (λ (k : ℕ). programPieces (a .text .now) (a .object .slots) (take k (a .object .programs))) n in
-    (sym (ap (λ (ss : List Section). over (a .out .now) (a .end) (laid (a .end) ss)) e ∙ over-nothing (a .out .now) (a .end)), sym (ap (endOf (a .end)) e))
+    nothing-laid (a .out .now) (a .end) (programPieces (a .text .now) (a .object .slots) (take (a .object .«program_count») (a .object .programs)))
+    (ap (λ (k : ℕ). programPieces (a .text .now) (a .object .slots) (take k (a .object .programs))) n)
 
 lay-programs-requires : tie.Need-lay-programs-requires
 lay-programs-requires c κs =
