@@ -1,4 +1,4 @@
--- The last map of a name, by one map more or less at the end of the list: what a walk from the list's end goes by.
+-- The last map of a name, by one map more or less at the end of the list: for a walk from the list's end.
 use mathlib.Core.Path.{_≡_, refl, sym, _∙_, ap}
 use mathlib.Core.Bool.{Bool, true, false, cond}
 use mathlib.Core.Option.{Option, none, some}
@@ -10,7 +10,7 @@ use lib.ListN.{length}
 use Rattle.octets.specs.Octets.{equal}
 use Rattle.ast.specs.Job.{Map, lastFrom, lastMap}
 
--- what was found behind a map, or the map itself
+-- what was found after a map, or the map itself
 abbrev pick : Option ℕ → Bool → ℕ → Option ℕ
 pick (some k) b i = some k
 pick none b i = cond b (some i) none

@@ -15,10 +15,11 @@ pub record Map : Type 0 where
   pub value : TypeAttr
   pub entries : CountAttr
 
--- a place in the code, and the raw name of the map that belongs there
+-- a place in the code, the raw name of the map that belongs there, and the number of that map among the job's maps
 pub record Relocation : Type 0 where
   pub offset : ℕ
   pub map : List ℕ
+  pub number : ℕ
 
 pub record Program : Type 0 where
   pub section : List ℕ

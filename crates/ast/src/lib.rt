@@ -1,5 +1,5 @@
-// What a job declares: the types of map.rs of the original. An attribute that a declaration leaves out is absent, which is another
-// state than present with 0.
+// What a job declares: the types of map.rs of the original. An attribute that a declaration leaves out is absent, which is not the same as
+// present with 0.
 
 // A key's or a value's type.
 pub enum Type {
@@ -29,15 +29,19 @@ pub enum CountAttr {
     Present(u32),
 }
 
-// A name, as the place in the job's text where its first character stands, and how many bytes it has. A byte takes two characters, a
-// text has at most 65,535 and a name at most 64 bytes. Both numbers have one width, so that a table of names has no gaps and is cleared
-// in one piece.
+// A name: the place of its first character in the job's text, and how many bytes it has. A text has at most 65,535 characters, a name at
+// most 64 bytes. Both numbers have one width, so that a table of names has no gaps and is cleared in one piece.
 pub struct Name {
     pub at: u16,
     pub len: u16,
 }
 
-// A map's declaration. Its name stands beside it, as a place in the job's text.
+impl Name {
+    // How many bytes a name may have.
+    pub const LONGEST: usize = 64;
+}
+
+// A map's declaration. Its name is kept beside it, as a place in the job's text.
 pub struct MapDecl {
     pub map_type: MapType,
     pub key_type: TypeAttr,

@@ -1,4 +1,4 @@
--- The walk over the lines of a program's body: one line more, and why no line of it lacks its end.
+-- The walk over the lines of a program's body: one line more, and why every line of it has its end.
 use mathlib.Core.Path.{_≡_, sym, _∙_, ap}
 use mathlib.Core.Bool.{true, false≢true}
 use mathlib.Core.Option.{Option, some}
@@ -12,7 +12,7 @@ use borrow.Author.Tests.{ne-eqb}
 use Rattle.lines.specs.Lines.{lines, frameBytes}
 use Rattle.lines.specs.Ends.{lineEnd}
 use Rattle.lines.specs.Hex.{isHex, bytesIn}
-use Rattle.lines.specs.declared.LineEnd.the-variants.{Ended, Cut}
+use Rattle.octets.specs.Told.{gives, refuses}
 use Rattle.lines.proofs.Laws.{is-there, frame-hex, line, cut, line-ended, no-end}
 use Rattle.frames.specs.Frames.{frameOf}
 use Rattle.object.specs.Read.{frameCode, lineCode, codeOf, body}
@@ -21,7 +21,7 @@ use Rattle.object.proofs.Programs.{drop-next}
 
 -- ---- lists
 
--- the element that comes next is the next of the first `n` too, where it is one of them
+-- the element that comes next is the next of the first `n` too, if it is one of them
 next-taken : {A : Type 0} (l : List A) (i n : ℕ) (a : A) (rest : List A) → i < n → drop i l ≡ a ∷ rest → drop i (take n l) ≡ a ∷ drop (suc i) (take n l)
 next-taken [] zero n a rest h e = let z : _≡_ {A = ℕ} 0 1 = cc in absurd (omega arith)
 next-taken [] (suc i) n a rest h e = let z : _≡_ {A = ℕ} 0 1 = cc in absurd (omega arith)
@@ -31,7 +31,7 @@ next-taken (x ∷ xs) (suc i) (suc n) a rest h e = next-taken xs i n a rest (ome
 
 -- ---- the walk
 
--- what is known of the line `part` behind the first `i` lines of a body of `n`, where the next one starts at `next`
+-- what is known of the line `part` after the first `i` lines of a body of `n`, if the next one starts at `next`
 pub record Turn (text : List ℕ) (from n i : ℕ) (part : List ℕ) (next : ℕ) : Type 0 where
   pub hex : isHex part ≡ true
   pub long : 1 ≤ length part
@@ -40,7 +40,7 @@ pub record Turn (text : List ℕ) (from n i : ℕ) (part : List ℕ) (next : ℕ
   pub frames : AllFrames (drop (i + 1) (body text from n))
 
 module _ (text : List ℕ) (from n i start : ℕ) (few : i < n) (here : drop i (lines (drop from text)) ≡ lines (drop start text)) (frames : AllFrames (drop i (body text from n))) where
-  pub turn : (end : ℕ) → lineEnd text start ≡ Ended end → Turn text from n i (take (end - start) (drop start text)) (end + 1)
+  pub turn : (end : ℕ) → lineEnd text start ≡ gives end → Turn text from n i (take (end - start) (drop start text)) (end + 1)
   turn end e =
       let part = take (end - start) (drop start text) in
       let l = lines (drop from text) in
@@ -59,7 +59,7 @@ module _ (text : List ℕ) (from n i start : ℕ) (few : i < n) (here : drop i (
       }
 
   -- a body that has all its lines ends each of them
-  pub not-cut : length (body text from n) ≡ n → lineEnd text start ≡ Cut → ⊥
+  pub not-cut : length (body text from n) ≡ n → lineEnd text start ≡ refuses 2 → ⊥
   not-cut all e =
       let l = lines (drop from text) in
       ⊎-elim
@@ -72,6 +72,6 @@ module _ (text : List ℕ) (from n i start : ℕ) (few : i < n) (here : drop i (
       omega (arith, length-take n l))
       (no-end (drop start text) start e)
 
--- behind the last line there is no code
+-- after the last line there is no code
 pub code-done : (text : List ℕ) (from n i : ℕ) → length (body text from n) ≡ n → n ≤ i → codeOf (drop i (body text from n)) ≡ []
 code-done text from n i e h = ap codeOf (drop-of-length-le (body text from n) {i = i} (omega arith))

@@ -1,4 +1,4 @@
--- What one line adds to a program's code: the bytes of a frame 04, the instruction that a frame 06 stands for, or nothing.
+-- What one line adds to a program's code: the bytes of a frame 04, the instruction of a frame 06, or nothing.
 use mathlib.Core.Path.{_≡_, refl, sym}
 use mathlib.Core.Bool.{Bool, true, false, cond}
 use mathlib.Core.Option.{Option, none, some}
@@ -32,7 +32,7 @@ module _ (s : List ℕ) (hex : isHex s ≡ true) (long : 1 ≤ length s) where
   behind : take (length s - 2) (drop 2 s) ≡ drop 2 s
   behind = take-all (length s - 2) (drop 2 s) (rw length-drop (omega arith))
 
-  -- the characters behind the first byte, and the bytes that they give
+  -- the characters after the first byte, and the bytes that they give
   pub behind-hex : isHex (take (length s - 2) (drop 2 s)) ≡ true
   behind-hex = rw behind (hex-drop s 1 hex)
 
@@ -92,7 +92,7 @@ instruction (c ∷ []) h = absurd (omega arith)
 instruction (c ∷ d ∷ []) h = absurd (omega arith)
 instruction (c ∷ d ∷ s ∷ bs) h = rw (eq-eqb (length bs) 6 (omega arith))
 
--- a frame 04 gives the bytes behind its first
+-- a frame 04 gives the bytes after its first
 pub code-of-four : (bs : List ℕ) → getD bs 0 0 ≡ 4 → frameCode (frameOf bs) ≡ drop 1 bs
 code-of-four [] h = absurd (omega arith)
 code-of-four (k ∷ bs) h = rw h

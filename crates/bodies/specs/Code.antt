@@ -1,4 +1,4 @@
--- The instruction that a frame 06 stands for, by the places of its numbers among the frame's bytes.
+-- The instruction of a frame 06, by the places of its numbers among the frame's bytes.
 use mathlib.Core.List.{List}
 use Prim.Native.Nat.{ℕ}
 use lib.ListN.{take, drop, getD}

@@ -29,7 +29,7 @@ fn put_insn(out: &mut [u8], line: &[u8])
     octets::copy(out, &bytes);
 }
 
-// The bytes of a line behind its first, into a part of exactly their number.
+// The bytes of a line after its first, into a part of exactly their number.
 fn put_bytes(out: &mut [u8], line: &[u8])
     requires { ⌜ isHex (now line) ≡ true ⌝ }
     requires { ⌜ 1 ≤ length (now line) ⌝ }
@@ -39,7 +39,7 @@ fn put_bytes(out: &mut [u8], line: &[u8])
     lines::put_unhex(out, &line[2..]);
 }
 
-// The code that a line adds, over what stands at `at`; the place behind it. The first byte and the length tell which code it is.
+// The code that a line adds, over what is at `at`; returns the place after it. The first byte and the length tell which code it is.
 fn put_frame(out: &mut [u8], at: usize, line: &[u8]) -> usize
     requires { ⌜ isHex (now line) ≡ true ⌝ }
     requires { ⌜ 1 ≤ length (now line) ⌝ }
@@ -55,8 +55,8 @@ fn put_frame(out: &mut [u8], at: usize, line: &[u8]) -> usize
     }
     if kind == 6 {
         if line.len() == 20 {
-            put_insn(&mut out[at..at + 8], line);
-            return at + 8;
+            put_insn(&mut out[at..at + Insn::SIZE], line);
+            return at + Insn::SIZE;
         }
     }
     at
@@ -73,7 +73,8 @@ pub fn put_code(out: &mut [u8], text: &[u8], from: usize, lines: usize)
     let mut at: usize = 0;
     let mut start = from;
     while i < lines {
-        let LineEnd::Ended(end) = lines::line_end(text, start) else {
+        let ended = lines::line_end(text, start);
+        let LineEnd::Ended(end) = ended else {
             return;
         };
         at = put_frame(out, at, &text[start..end]);

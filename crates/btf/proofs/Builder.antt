@@ -1,4 +1,4 @@
--- Rows of types by the lengths of their strings: the bytes and the table that adding types comes to, and rows that follow each other.
+-- Rows of types by the lengths of their strings: the bytes and the table that adding types gives, and rows one after the other.
 use mathlib.Core.Path.{_≡_, refl, sym, ap, _∙_}
 use mathlib.Core.List.{List, [], _∷_, _++_, append-assoc, append-nil}
 use Prim.Native.Nat.{ℕ, suc, _+_}
@@ -47,7 +47,7 @@ bytes-append n (t ∷ ts) us =
     ap (λ (r : List ℕ). b ++ r) (bytes-append (behind n (typeNames t)) ts us)
     ∙ sym (append-assoc b (bytesAt (behind n (typeNames t)) ts) (bytesAt (past (behind n (typeNames t)) ts) us))
 
--- where a table stands does not matter, only how long it is
+-- of the strings before, only the length matters
 pub bytes-from : (strs : List ℕ) (ts : List BtfType) → bytesFrom strs ts ≡ bytesAt (length strs) ts
 bytes-from strs [] = refl
 bytes-from strs (t ∷ ts) =

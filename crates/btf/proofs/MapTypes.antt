@@ -1,12 +1,13 @@
--- The BTF types of maps: ids follow each other, numbers fit their fields, and the section stays short, for maps within limits. What a
--- loader reads back from them is the crate `seen`'s.
+-- The BTF types of maps: ids follow each other, numbers fit their fields, and the section stays short, for maps within limits. Crate `seen`
+-- proves what a loader reads back from them.
 use mathlib.Core.Path.{_≡_, refl, ap}
 use mathlib.Core.List.{List, [], _∷_, _++_, map, map-append}
 use Prim.Native.Nat.{ℕ, suc, _+_, _*_, _^_, _≤_, _<_}
 use native.Mathlib.Omega.{arith}
 use lib.ListN.{length, length-append}
 use Rattle.octets.specs.Octets.{ascii}
-use Rattle.octets.proofs.Lists.{All, all-append}
+use Rattle.octets.specs.All.{All}
+use Rattle.octets.proofs.Lists.{all-append}
 use Rattle.written.specs.Written.{written}
 use Rattle.written.proofs.Names.{Clean, written-short, written-clean}
 use Rattle.ast.specs.Job.{Map}
@@ -64,7 +65,7 @@ count-vars next at (m ∷ ms) = ap suc (count-vars (attributes next m .next + 2)
 
 -- ---- a map's attributes
 
--- what the attributes so far have come to: the next id, and how many members and bytes
+-- what the attributes so far give: the next id, and how many members and bytes
 record Good (a : Attributes) (n c w : ℕ) : Type 0 where
   next : a .next ≤ n
   number : length (a .members) ≤ c
@@ -74,7 +75,7 @@ record Good (a : Attributes) (n c w : ℕ) : Type 0 where
   clean : All Clean (map (λ m. m .name) (a .members))
   names : sizeOf (map (λ m. m .name) (a .members)) ≤ 12 * c
 
--- an attribute more: a member of the name `name`, and the types `more`
+-- one attribute more: a member of the name `name`, and the types `more`
 module _ (a : Attributes) (n c w : ℕ) (g : Good a n c w) (name : List ℕ) (clean : Clean name) (short : length name ≤ 11) where
   good-more : (i : ℕ) (more : List BtfType) (next k v : ℕ) → i < 2 ^ 32 → All FitType more → next ≤ n + k → weigh more ≤ v
       → Good (record { next = next; types = a .types ++ more; members = a .members ++ (record { name = name; typeId = i } ∷ []) }) (n + k) (c + 1) (w + v)

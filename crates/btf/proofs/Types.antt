@@ -1,11 +1,11 @@
--- Rows of BTF types: how many bytes a type takes, which numbers fit their fields, and the bytes and strings that a builder comes to from
--- any strings on. Nothing here knows which types a job has.
+-- Rows of BTF types: how many bytes a type takes, which numbers fit their fields, and the bytes and strings that a builder makes from any
+-- strings on. Nothing here knows which types a job has.
 use mathlib.Core.Path.{_≡_, refl, sym, ap, _∙_}
 use mathlib.Core.List.{List, [], _∷_, _++_, append-assoc, append-nil}
 use Prim.Native.Nat.{ℕ, suc, _+_, _*_, _^_, _≤_, _<_}
 use native.Mathlib.Omega.{arith}
 use lib.ListN.{length, length-append, length-map}
-use Rattle.octets.proofs.Lists.{All}
+use Rattle.octets.specs.All.{All}
 use Rattle.written.proofs.Names.{Clean}
 use Rattle.elf.specs.Strings.{addStrings, emptyTable}
 use Rattle.elf.specs.Row.{sizeOf}

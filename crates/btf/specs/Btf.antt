@@ -14,8 +14,8 @@ pub record Var : Type 0 where
   pub offset : ℕ
   pub size : ℕ
 
--- the kinds of type that an object has: `int name size encoding`, where encoding 1 is signed, `ptr type`, `array element index n`,
--- `struct members`, `var name type`, `datasec name size vars`
+-- the kinds of type in an object: `int name size encoding` (encoding 1 is signed), `ptr type`, `array element index n`, `struct members`,
+-- `var name type`, `datasec name size vars`
 pub data BtfType : Type 0 where
   int : List ℕ → ℕ → ℕ → BtfType
   ptr : ℕ → BtfType
@@ -28,7 +28,7 @@ pub data BtfType : Type 0 where
 abbrev pub info : ℕ → ℕ → ℕ
 info kind count = kind * 2 ^ 24 + count
 
--- the names that a type asks for, in the order in which its bytes name them; a type with no name of its own has place 0
+-- the names of a type, in the order of its bytes; a type with no name of its own has place 0
 abbrev pub typeNames : BtfType → List (List ℕ)
 typeNames (int name size encoding) = name ∷ []
 typeNames (ptr t) = []

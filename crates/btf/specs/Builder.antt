@@ -1,4 +1,4 @@
--- What the builder's methods do: where it stands afterwards, and a row of types as bytes whose names stand behind a string table of `n` bytes.
+-- What the builder's methods do: where the builder is afterwards, and the bytes of a row of types whose names follow `n` bytes of strings.
 use mathlib.Core.List.{List, [], _∷_, _++_}
 use Prim.Native.Nat.{ℕ, suc, _+_, _^_, _≤_, _<_}
 use lib.ListN.{length}
@@ -15,15 +15,15 @@ words (v ∷ vs) = le 4 v ++ words vs
 abbrev pub newBuilder : BtfBuilder
 newBuilder = record { at = 0; strings = 1; «next_type_id» = 1 }
 
--- the builder behind `n` bytes of types, `s` bytes of strings and `k` types more
+-- the builder after `n` more bytes of types, `s` of strings, and `k` types
 abbrev pub moved : BtfBuilder → ℕ → ℕ → ℕ → BtfBuilder
 moved b n s k = record { at = b .at + n; strings = b .strings + s; «next_type_id» = b .«next_type_id» + k }
 
--- the same where nothing has a name
+-- the same if nothing has a name
 abbrev pub passed : BtfBuilder → ℕ → ℕ → BtfBuilder
 passed b n k = record { at = b .at + n; strings = b .strings; «next_type_id» = b .«next_type_id» + k }
 
--- behind a struct's member, whose name takes `s` bytes, and behind a section's entry: the id of the next type stays
+-- after a struct's member, whose name takes `s` bytes, and after a section's entry: the id of the next type stays
 abbrev pub membered : BtfBuilder → ℕ → BtfBuilder
 membered b s = record { at = b .at + 12; strings = b .strings + s; «next_type_id» = b .«next_type_id» }
 
@@ -36,17 +36,17 @@ pub record Within (b : BtfBuilder) (room : ℕ) : Type 0 where
   pub strings : b .strings < 2 ^ 32
   pub next : b .«next_type_id» < 2 ^ 32
 
--- the place behind names that stand from `n` on
+-- the place after names that begin at `n`
 abbrev pub behind : ℕ → List (List ℕ) → ℕ
 behind n [] = n
 behind n (s ∷ ss) = behind (n + suc (length s)) ss
 
--- the bytes of types whose names stand from `n` on
+-- the bytes of types whose names begin at `n`
 abbrev pub bytesAt : ℕ → List BtfType → List ℕ
 bytesAt n [] = []
 bytesAt n (t ∷ ts) = typeBytes (placesAt n (typeNames t)) t ++ bytesAt (behind n (typeNames t)) ts
 
--- the names that types ask for, and the place behind them
+-- the names of types, and the place after them
 abbrev pub namesOf : List BtfType → List (List ℕ)
 namesOf [] = []
 namesOf (t ∷ ts) = typeNames t ++ namesOf ts

@@ -1,5 +1,5 @@
--- The BTF types of a job's maps (`build_btf`): five ints, for each map its attributes, a struct of those that are declared and a VAR,
--- and the DATASEC `.maps` last.
+-- The BTF types of a job's maps (`build_btf`): five ints; for each map its attributes, a struct of those that are declared and a VAR; last
+-- the DATASEC `.maps`.
 use mathlib.Core.List.{List, [], _∷_, _++_}
 use Prim.Native.Nat.{ℕ, _+_, _*_}
 use Rattle.octets.specs.Octets.{ascii}

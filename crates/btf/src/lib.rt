@@ -1,4 +1,4 @@
-// BTF, which says to a loader what the maps are: the numbers of elf.rs of the original.
+// BTF tells a loader what the maps are. Its numbers are those of elf.rs of the original.
 ghost use mathlib.Core.Path.{_≡_};
 ghost use mathlib.Core.List.{[], _∷_};
 ghost use Prim.Native.Nat.{_+_, _*_, _≤_, _<_, _^_};
@@ -67,10 +67,10 @@ pub fn btf_map_size(map: MapDecl) -> u32
     fields += type_count(key);
     fields += type_count(value);
     fields += count_count(entries);
-    fields * 8
+    fields * BtfBuilder::ROOM
 }
 
-// Numbers of four bytes each, over what stands at `at`.
+// Numbers of four bytes each, over what is at `at`.
 fn put_words(out: &mut [u8], at: usize, values: &[u64])
     requires { ⌜ at + 4 * length (now values) ≤ length (now out) ⌝ }
     ensures { λ _. ⌜ now (out .exit) ≡ over (now (out .entry)) at (words (now (values .entry))) ⌝ }
@@ -78,13 +78,13 @@ fn put_words(out: &mut [u8], at: usize, values: &[u64])
     let mut place = at;
     let mut i = 0;
     while i < values.len() {
-        octets::put_at(out, place, 4, values[i]);
-        place += 4;
+        octets::put_at(out, place, BtfBuilder::WORD, values[i]);
+        place += BtfBuilder::WORD;
         i += 1;
     }
 }
 
-// A type over what stands at `at`: the place of its name, its info word, and the words that its kind has besides.
+// A type, over what is at `at`: the place of its name, its info word, and the other words of its kind.
 fn put_type(out: &mut [u8], at: usize, name: usize, kind: u32, vlen: u32, rest: &[u64])
     requires { ⌜ kind < 256 ⌝ }
     requires { ⌜ vlen < 2 ^ 24 ⌝ }
@@ -93,11 +93,42 @@ fn put_type(out: &mut [u8], at: usize, name: usize, kind: u32, vlen: u32, rest: 
 {
     let info = btf_info(kind, vlen) as u64;
     put_words(out, at, &[name as u64, info]);
-    put_words(out, at + 8, rest);
+    put_words(out, at + BtfBuilder::HEAD, rest);
 }
 
-// Where the next type goes in lent memory, how long the strings are so far, and the id of the next type. The strings themselves are
-// written apart: a type names a string by its place, which follows from the lengths of those before it.
+// The ints, which are the first types: `int`, which arrays are made of, and those of keys and values. Ids begin at 1.
+pub struct BtfIntIds {}
+
+impl BtfIntIds {
+    pub const INT: u32 = 1;
+
+    pub const U32: u32 = 2;
+
+    pub const U64: u32 = 3;
+
+    pub const I32: u32 = 4;
+
+    pub const I64: u32 = 5;
+
+    // The first id after them.
+    pub const NEXT: u32 = BtfIntIds::I64 + 1;
+
+    // How many bytes an int of 32 bits has, and one of 64.
+    pub const BYTES_32: u32 = 4;
+
+    pub const BYTES_64: u32 = 8;
+
+    // How long the name of each is.
+    pub const NAME_LEN: usize = 3;
+
+    // How many bytes their types take, and the strings up to the last of their names, with the zero byte that a table begins with.
+    pub const TYPES: usize = BtfIntIds::I64 as usize * BtfBuilder::INT_SIZE;
+
+    pub const STRINGS: usize = 1 + BtfIntIds::I64 as usize * (BtfIntIds::NAME_LEN + 1);
+}
+
+// Where the next type goes in lent memory, how long the strings are so far, and the id of the next type. The strings themselves are written
+// separately: a type names a string by its place, which follows from the lengths of those before it.
 pub struct BtfBuilder {
     pub at: usize,
     pub strings: usize,
@@ -128,14 +159,52 @@ impl BtfBuilder {
     // How many bytes the section's header has.
     pub const HEADER: usize = 24;
 
-    // No type yet, and of the strings the zero byte that a table begins with. Ids begin at 1.
+    // A type is written in words. The first two are its name's place and its info.
+    pub const WORD: usize = 4;
+
+    pub const HEAD: usize = 2 * BtfBuilder::WORD;
+
+    // How many bytes a type takes. The first is for a pointer, and for a struct or a section without what follows it.
+    pub const TYPE_SIZE: usize = 12;
+
+    pub const INT_SIZE: usize = 16;
+
+    pub const ARRAY_SIZE: usize = 24;
+
+    pub const VAR_SIZE: usize = 16;
+
+    // How many bytes a struct's member takes, and a section's entry.
+    pub const MEMBER_SIZE: usize = 12;
+
+    pub const ENTRY_SIZE: usize = 12;
+
+    // A map's room in `.maps` for each attribute, in bytes, and the bits of a member.
+    pub const ROOM: u32 = 8;
+
+    pub const BYTE_BITS: u64 = 8;
+
+    pub const MEMBER_BITS: u64 = BtfBuilder::ROOM as u64 * BtfBuilder::BYTE_BITS;
+
+    // A number is two types: an array and a pointer to it.
+    pub const NUMBER_IDS: u32 = 2;
+
+    // How long the members' names are.
+    pub const TYPE_NAME_LEN: usize = 4;
+
+    pub const KEY_NAME_LEN: usize = 3;
+
+    pub const VALUE_NAME_LEN: usize = 5;
+
+    pub const MAX_ENTRIES_NAME_LEN: usize = 11;
+
+    // No type yet, and only the zero byte that a string table begins with.
     pub fn new() -> Self
         ensures { λ r. ⌜ r ≡ newBuilder ⌝ }
     {
         BtfBuilder {
             at: 0,
             strings: 1,
-            next_type_id: 1,
+            next_type_id: BtfIntIds::INT,
         }
     }
 
@@ -145,7 +214,7 @@ impl BtfBuilder {
         ensures { λ _. ⌜ now (out .exit) ≡ over (now (out .entry)) (self .at) (typeBytes (self .strings ∷ []) (int [] size encoding)) ⌝ }
         ensures { λ r. ⌜ r ≡ moved self 16 (name + 1) 1 ⌝ }
     {
-        let data = encoding as u64 * 0x1000000 + 8 * (size as u64);
+        let data = encoding as u64 * 0x1000000 + BtfBuilder::BYTE_BITS * (size as u64);
         put_type(
             out,
             self.at,
@@ -155,7 +224,7 @@ impl BtfBuilder {
             &[size as u64, data],
         );
         BtfBuilder {
-            at: self.at + 16,
+            at: self.at + BtfBuilder::INT_SIZE,
             strings: self.strings + (name + 1),
             next_type_id: self.next_type_id + 1,
         }
@@ -176,7 +245,7 @@ impl BtfBuilder {
             &[pointee_type as u64],
         );
         BtfBuilder {
-            at: self.at + 12,
+            at: self.at + BtfBuilder::TYPE_SIZE,
             strings: self.strings,
             next_type_id: self.next_type_id + 1,
         }
@@ -191,7 +260,7 @@ impl BtfBuilder {
         let rest = [0u64, elem_type as u64, index_type as u64, nelems as u64];
         put_type(out, self.at, 0, BtfBuilder::KIND_ARRAY, 0, &rest);
         BtfBuilder {
-            at: self.at + 24,
+            at: self.at + BtfBuilder::ARRAY_SIZE,
             strings: self.strings,
             next_type_id: self.next_type_id + 1,
         }
@@ -210,16 +279,16 @@ impl BtfBuilder {
             0,
             BtfBuilder::KIND_STRUCT,
             vlen,
-            &[8 * vlen as u64],
+            &[(BtfBuilder::ROOM * vlen) as u64],
         );
         BtfBuilder {
-            at: self.at + 12,
+            at: self.at + BtfBuilder::TYPE_SIZE,
             strings: self.strings,
             next_type_id: self.next_type_id + 1,
         }
     }
 
-    // The struct's member at `position`, whose name has `name` bytes: 64 bits for each member before it.
+    // The struct's member at `position`, whose name has `name` bytes. Each member before it takes 64 bits.
     pub fn add_member(self, out: &mut [u8], name: usize, typ: u32, position: u32) -> Self
         requires { ⌜ Within (membered self (name + 1)) (length (now out)) ⌝ }
         ensures { λ _. ⌜ now (out .exit) ≡ over (now (out .entry)) (self .at) (words (self .strings ∷ typ ∷ 64 * position ∷ [])) ⌝ }
@@ -228,10 +297,14 @@ impl BtfBuilder {
         put_words(
             out,
             self.at,
-            &[self.strings as u64, typ as u64, 64 * position as u64],
+            &[
+                self.strings as u64,
+                typ as u64,
+                BtfBuilder::MEMBER_BITS * position as u64,
+            ],
         );
         BtfBuilder {
-            at: self.at + 12,
+            at: self.at + BtfBuilder::MEMBER_SIZE,
             strings: self.strings + (name + 1),
             next_type_id: self.next_type_id,
         }
@@ -246,7 +319,7 @@ impl BtfBuilder {
         let rest = [typ as u64, BtfBuilder::VAR_GLOBAL_ALLOCATED];
         put_type(out, self.at, self.strings, BtfBuilder::KIND_VAR, 0, &rest);
         BtfBuilder {
-            at: self.at + 16,
+            at: self.at + BtfBuilder::VAR_SIZE,
             strings: self.strings + (name + 1),
             next_type_id: self.next_type_id + 1,
         }
@@ -268,7 +341,7 @@ impl BtfBuilder {
             &[size as u64],
         );
         BtfBuilder {
-            at: self.at + 12,
+            at: self.at + BtfBuilder::TYPE_SIZE,
             strings: self.strings + (name + 1),
             next_type_id: self.next_type_id + 1,
         }
@@ -282,7 +355,7 @@ impl BtfBuilder {
     {
         put_words(out, self.at, &[typ as u64, offset as u64, size as u64]);
         BtfBuilder {
-            at: self.at + 12,
+            at: self.at + BtfBuilder::ENTRY_SIZE,
             strings: self.strings,
             next_type_id: self.next_type_id,
         }

@@ -1,9 +1,8 @@
--- What callers need of the rows of slots: an accepted job's slots are resolved, and their entries are then those that the object's
--- definition asks for. And the length of the licence.
+-- What callers need of rows of slots: their entries are those of the object's definition. And the length of the licence.
 use mathlib.Core.Path.{_≡_, refl, _∙_, ap}
 use mathlib.Core.Bool.{true}
 use mathlib.Core.List.{List, [], _∷_, _++_}
-use Prim.Native.Nat.{ℕ, zero, suc, _+_, _-_, _*_, _≤_, _<_}
+use Prim.Native.Nat.{ℕ, _+_, _-_, _*_, _≤_, _<_}
 use native.Mathlib.Numerals.{add-one}
 use native.Mathlib.Omega.{arith}
 use lib.ListN.{length, take, drop, getD, length-append, length-take, length-drop, drop-of-length-le}
@@ -19,14 +18,13 @@ use Rattle.object.specs.declared.License.the-variants.{Gpl, Text}
 use Rattle.object.specs.declared.Entry.{Entry}
 use Rattle.object.specs.declared.Entry.the-variants.{Empty, Taken}
 use Rattle.object.specs.declared.Slot.{Slot}
-use Rattle.object.specs.declared.Program.{Program}
-use Rattle.object.specs.declared.BpfObject.{BpfObject}
-use Rattle.object.specs.Object.{mapSymbol, relocationBytes}
+use Rattle.object.specs.Object.{relocationBytes}
 use Rattle.object.specs.Tables.{emptySlot}
-use Rattle.object.specs.Read.{bytesAt, licenceIn, entryIn, slotIn, relocationsIn, declaredMaps}
-use Rattle.object.specs.Kept.{Named, LicenceNamed, ResolvedEntry, ResolvedSlot, Kept}
+use Rattle.object.specs.Read.{bytesAt, licenceIn, entryIn, relocationsIn}
+use Rattle.object.specs.Kept.{Named, LicenceNamed, ResolvedEntry}
 use Rattle.object.proofs.Names.{name-length}
-use Rattle.contents.specs.Slots.{licenceLen, takenBytes, slotBytes, slotsBytes, PlacedEntry, PlacedSlot, AllPlaced, AllResolved}
+use Rattle.object.proofs.Slots.{AllResolved}
+use Rattle.contents.specs.Slots.{licenceLen, takenBytes, slotBytes, slotsBytes, PlacedEntry, AllPlaced}
 
 -- ---- the licence
 
@@ -34,21 +32,21 @@ pub licence-length : (text : List ℕ) (l : License) → LicenceNamed text l →
 licence-length text Gpl k = refl
 licence-length text (Text n) k = name-length text n k
 
--- what is known of a licence that the text holds
+-- what is known of a licence that is in the text
 pub text-named : (text : List ℕ) (l : License) (n : Name) → l ≡ Text n → LicenceNamed text l → Named text n
 text-named text l n e k = rw e at k
 
--- ---- resolved slots
+-- ---- rows of slots
 
-entry-resolved : (text : List ℕ) (ms : List Map) (e : Entry) (place len number : ℕ) → ResolvedEntry text ms e place len number
-    → takenBytes text e place number ≡ relBytes (entryIn text e place len .offset) (mapSymbol ms (entryIn text e place len .map))
-entry-resolved text ms Empty place len number r = absurd r
-entry-resolved text ms Taken place len number r = rw (r .last, mapSymbol)
-
-pub slots-resolved : (text : List ℕ) (ms : List Map) (ss : List Slot) → AllResolved text ms ss
-    → slotsBytes text ss ≡ relocationBytes ms (relocationsIn text ss)
-slots-resolved text ms [] r = refl
-slots-resolved text ms (s ∷ ss) r = rw (entry-resolved text ms (s .entry) (s .place) (s .len) (s .map) (r .0), slots-resolved text ms ss (r .1))
+-- the bytes that slots give are those of the relocations that are read from them
+pub slots-relocations : (text : List ℕ) (ss : List Slot) → slotsBytes text ss ≡ relocationBytes (relocationsIn text ss)
+slots-relocations text [] = refl
+slots-relocations text (s ∷ ss) = rw (slots-relocations text ss) (entry-first (s .entry))
+  where
+    entry-first : (e : Entry) → takenBytes text e (s .place) (s .map) ++ relocationBytes (relocationsIn text ss)
+        ≡ relocationBytes (entryIn text e (s .place) (s .len) (s .map) ++ relocationsIn text ss)
+    entry-first Empty = refl
+    entry-first Taken = refl
 
 entry-placed : (text : List ℕ) (ms : List Map) (e : Entry) (place len number : ℕ) → ResolvedEntry text ms e place len number → PlacedEntry text e place len
 entry-placed text ms Empty place len number r = r
@@ -57,21 +55,6 @@ entry-placed text ms Taken place len number r = (r .inside, r .hex)
 pub resolved-placed : (text : List ℕ) (ms : List Map) (ss : List Slot) → AllResolved text ms ss → AllPlaced text ss
 resolved-placed text ms [] r = tt
 resolved-placed text ms (s ∷ ss) r = (entry-placed text ms (s .entry) (s .place) (s .len) (s .map) (r .0), resolved-placed text ms ss (r .1))
-
--- ---- the slots of a program
-
--- a part of a table whose slots are resolved one by one
-taken-resolved : (text : List ℕ) (ms : List Map) (l : List Slot) (k : ℕ) → k ≤ length l
-    → ((i : ℕ) → i < k → ResolvedSlot text ms (getD l i emptySlot)) → AllResolved text ms (take k l)
-taken-resolved text ms l zero h f = tt
-taken-resolved text ms [] (suc k) h f = tt
-taken-resolved text ms (s ∷ l) (suc k) h f = (f 0 (omega arith), taken-resolved text ms l k (omega arith) (λ i g. f (suc i) (omega arith)))
-
-pub part-resolved : (text : List ℕ) (o : BpfObject) (p : Program) → Kept text o → p .first + p .relocs ≤ o .«reloc_count»
-    → AllResolved text (declaredMaps text o) (take (p .relocs) (drop (p .first) (o .slots)))
-part-resolved text o p k h =
-    taken-resolved text (declaredMaps text o) (drop (p .first) (o .slots)) (p .relocs) (rw length-drop (omega (arith, k .sound)))
-    (λ i g. rw (getD-drop (p .first) (o .slots) i emptySlot) (k .slots (p .first + i) (omega arith)))
 
 -- ---- one entry
 
@@ -103,7 +86,7 @@ slots-length text (s ∷ ss) k =
     entry-length text Empty place len map k = absurd k
     entry-length text Taken place len map k = refl
 
--- what is known of a slot that is the next one of a row, with its place and its map, where `more` come behind it
+-- what is known of a slot that is the next one of a row, with its place and its map, if `more` come after it
 pub record Next (text : List ℕ) (place map : ℕ) (rest more : List Slot) : Type 0 where
   pub inside : place + 16 ≤ length text
   pub hex : isHex (take 16 (drop place text)) ≡ true
@@ -111,7 +94,7 @@ pub record Next (text : List ℕ) (place map : ℕ) (rest more : List Slot) : Ty
   pub placed : AllPlaced text more
 
 module _ (text : List ℕ) (slots : List Slot) (first count i : ℕ) (inside : first + count ≤ length slots) (few : i < count) where
-  -- the slot at `first + i` is the one behind the first `i` of the row
+  -- the slot at `first + i` is the one after the first `i` of the row
   slot-next : drop i (take count (drop first slots)) ≡ getD slots (first + i) emptySlot ∷ drop (i + 1) (take count (drop first slots))
   slot-next =
       let row = take count (drop first slots) in
@@ -140,6 +123,6 @@ module _ (text : List ℕ) (slots : List Slot) (first count i : ℕ) (inside : f
       let g : PlacedEntry text Empty (s .place) (s .len) = rw e at (f .0) in
       g
 
--- behind the last slot of a row there is no entry
+-- after the last slot of a row there is no entry
 pub slots-done : (text : List ℕ) (l : List Slot) (count i : ℕ) → count ≤ i → slotsBytes text (drop i (take count l)) ≡ []
 slots-done text l count i h = ap (slotsBytes text) (drop-of-length-le (take count l) {i = i} (rw length-take (omega arith)))

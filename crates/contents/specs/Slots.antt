@@ -1,4 +1,4 @@
--- What the licence section and a REL section hold, read off the tables: the length of the licence, and the bytes of a row of slots.
+-- What the licence section and a REL section hold, by the tables: the length of the licence, and the bytes of a row of slots.
 use mathlib.Core.Path.{_≡_}
 use mathlib.Core.Bool.{true}
 use mathlib.Core.List.{List, [], _∷_, _++_}
@@ -7,22 +7,20 @@ use lib.ListN.{length, take, drop}
 use Rattle.octets.specs.Octets.{value}
 use Rattle.lines.specs.Hex.{isHex}
 use Rattle.elf.specs.Elf.{relBytes}
-use Rattle.ast.specs.Job.{Map}
 use Rattle.object.specs.declared.License.{License}
 use Rattle.object.specs.declared.License.the-variants.{Gpl, Text}
 use Rattle.object.specs.declared.Entry.{Entry}
 use Rattle.object.specs.declared.Entry.the-variants.{Empty, Taken}
 use Rattle.object.specs.declared.Slot.{Slot}
 use Rattle.object.specs.Read.{bytesAt}
-use Rattle.object.specs.Kept.{ResolvedSlot}
 
--- This is how many bytes the licence has, without its zero byte. A job with no licence frame has the licence GPL.
+-- How many bytes the licence has, without its zero byte. A job with no licence frame has the licence GPL.
 abbrev pub licenceLen : License → ℕ
 licenceLen Gpl = 3
 licenceLen (Text n) = n .len
 
--- A slot gives one entry: its offset stands in the text, and its map's symbol follows the null symbol, LICENSE and the maps before it. An
--- empty slot gives none.
+-- A slot gives one entry: its offset is in the text, and its map's symbol follows the null symbol, LICENSE and the maps before it. An empty
+-- slot gives none.
 abbrev pub takenBytes : List ℕ → Entry → ℕ → ℕ → List ℕ
 takenBytes text Empty place map = []
 takenBytes text Taken place map = relBytes (value (bytesAt text place 8)) (2 + map)
@@ -35,8 +33,8 @@ abbrev pub slotsBytes : List ℕ → List Slot → List ℕ
 slotsBytes text [] = []
 slotsBytes text (s ∷ ss) = slotBytes text s ++ slotsBytes text ss
 
--- A slot is placed when its offset stands in the text in hexadecimal, and the map's name behind it lies in the text too. An empty slot is
--- not placed, so that a writer never meets one.
+-- A slot is placed when its offset is in the text in hexadecimal, and the map's name after it is in the text too. An empty slot is not
+-- placed, so a writer never meets one.
 abbrev pub PlacedEntry : List ℕ → Entry → ℕ → ℕ → Type 0
 PlacedEntry text Empty place len = ⊥
 PlacedEntry text Taken place len = (place + 16 + 2 * len ≤ length text) × (isHex (take 16 (drop place text)) ≡ true)
@@ -48,8 +46,3 @@ PlacedSlot text s = PlacedEntry text (s .entry) (s .place) (s .len)
 abbrev pub AllPlaced : List ℕ → List Slot → Type 0
 AllPlaced text [] = Unit
 AllPlaced text (s ∷ ss) = PlacedSlot text s × AllPlaced text ss
-
--- Every slot of a row is resolved: it is placed, and its map is the last one of the name that stands there.
-abbrev pub AllResolved : List ℕ → List Map → List Slot → Type 0
-AllResolved text ms [] = Unit
-AllResolved text ms (s ∷ ss) = ResolvedSlot text ms s × AllResolved text ms ss

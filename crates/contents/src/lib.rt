@@ -1,5 +1,5 @@
-// What the licence section, a program's section and a REL section hold: each writer fills the part that it is lent, from the job's text
-// and the places that the tables keep.
+// The licence, and the relocations of a program. Each writer fills the part that it is lent, from the job's text and the places that the
+// tables keep.
 ghost use mathlib.Core.Path.{_≡_};
 ghost use mathlib.Core.Bool.{true};
 ghost use mathlib.Core.List.{[], _∷_, _++_};
@@ -12,16 +12,26 @@ ghost use Rattle.object.specs.Read.{bytesAt, nameIn, licenceIn};
 ghost use Rattle.object.specs.Kept.{Named, LicenceNamed};
 ghost use Rattle.contents.specs.Slots.{licenceLen, slotsBytes, AllPlaced};
 use ast::Name;
+use elf::Rel;
+use elf::Symbol;
+use object::BpfObject;
 use object::Entry;
 use object::License;
 use object::Slot;
+
+// The licence of a job that names none, `GPL`.
+pub struct Gpl {}
+
+impl Gpl {
+    pub const LEN: usize = 3;
+}
 
 // How many bytes the licence has, without its zero byte.
 pub fn license_len(license: License) -> usize
     ensures { λ r. ⌜ r ≡ licenceLen license ⌝ }
 {
     match license {
-        License::Gpl => 3,
+        License::Gpl => Gpl::LEN,
         License::Text(name) => name.len as usize,
     }
 }
@@ -50,8 +60,8 @@ pub fn put_license(out: &mut [u8], text: &[u8], license: License)
     }
 }
 
-// The entry of a relocation whose offset stands at `place` and whose map has the number `map`, into a part of exactly its size. The
-// symbols of the maps follow the null symbol and LICENSE.
+// The entry of a relocation whose offset is at `place` and whose map has the number `map`, into a part of exactly its size. The symbols of
+// the maps follow the null symbol and LICENSE.
 fn put_slot(out: &mut [u8], text: &[u8], place: usize, map: u8)
     requires { ⌜ place + 16 ≤ length (now text) ⌝ }
     requires { ⌜ isHex (take 16 (drop place (now text))) ≡ true ⌝ }
@@ -59,11 +69,17 @@ fn put_slot(out: &mut [u8], text: &[u8], place: usize, map: u8)
     ensures { λ _. ⌜ now (out .exit) ≡ relBytes (value (bytesAt (now (text .entry)) place 8)) (2 + map) ⌝ }
 {
     let offset = lines::number_at(&text[place..place + 16], 0, 8);
-    elf::put_rel(out, offset, 2 + map as u32);
+    elf::put_rel(out, offset, Symbol::FIRST_MAP as u32 + map as u32);
 }
 
 // A program's relocations: the slots from `first` on, `count` of them, into a part of exactly their size.
-pub fn put_rels(out: &mut [u8], text: &[u8], slots: [Slot; 256], first: usize, count: usize)
+pub fn put_rels(
+    out: &mut [u8],
+    text: &[u8],
+    slots: [Slot; BpfObject::RELOCATIONS],
+    first: usize,
+    count: usize,
+)
     requires { ⌜ first + count ≤ 256 ⌝ }
     requires { ⌜ AllPlaced (now text) (take count (drop first slots)) ⌝ }
     requires { ⌜ length (now out) ≡ 16 * count ⌝ }
@@ -77,8 +93,13 @@ pub fn put_rels(out: &mut [u8], text: &[u8], slots: [Slot; 256], first: usize, c
         let Entry::Taken = entry else {
             return;
         };
-        put_slot(&mut out[at..at + 16], text, slot.place as usize, slot.map);
-        at += 16;
+        put_slot(
+            &mut out[at..at + Rel::SIZE],
+            text,
+            slot.place as usize,
+            slot.map,
+        );
+        at += Rel::SIZE;
         i += 1;
     }
 }

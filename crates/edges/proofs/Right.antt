@@ -1,4 +1,4 @@
--- The theorem over document 01's table of jobs at the edges: the definitions give every figure of it. The checker computes them.
+-- The theorem over document 01's table of edge jobs: the definitions give every figure in it. The checker computes them.
 use lib.Dec.{T}
 use Rattle.edges.specs.Table.{all, rows}
 

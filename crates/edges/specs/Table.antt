@@ -1,5 +1,5 @@
--- Document 01's jobs at the edges that it marks P, with every figure that it gives for them. The theorem over the table, that each job
--- is accepted and its object has its figures, stands in proofs/Right.antt.
+-- The edge jobs that document 01 marks P, with every figure that it gives for them. proofs/Right.antt proves that each job is accepted and
+-- its object has these figures.
 use mathlib.Core.Bool.{Bool, true, false, _&&_}
 use mathlib.Core.List.{List, [], _∷_}
 use Prim.Native.Nat.{ℕ}

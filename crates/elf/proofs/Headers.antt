@@ -1,4 +1,4 @@
--- The section header table: how long it is, and tables one behind the other.
+-- The section header table: how long it is, and tables one after the other.
 use mathlib.Core.Path.{_≡_, refl, sym, _∙_, ap}
 use mathlib.Core.List.{List, [], _∷_, _++_, append-assoc}
 use Prim.Native.Nat.{ℕ, _*_}

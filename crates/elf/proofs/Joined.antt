@@ -1,5 +1,5 @@
--- String tables by their lengths: a table is what its strings are in a row, and their places follow from the lengths before them. What a
--- writer that keeps only the length of the table so far goes by.
+-- String tables by their lengths: a table is its strings in a row, and their places follow from the lengths before them. For writers that
+-- keep only the length of the table so far.
 use mathlib.Core.Path.{_≡_, refl, sym, ap, _∙_}
 use mathlib.Core.List.{List, [], _∷_, _++_, append-assoc, append-nil}
 use Prim.Native.Nat.{ℕ, suc, _+_}

@@ -1,5 +1,5 @@
--- A file's layout: where its sections end, that each section's contents stand in the file at the section's place, and that the section
--- header table stands behind them. Nothing here knows which sections a job has.
+-- A file's layout: where its sections end, that each section's contents are in the file at the section's place, and that the section header
+-- table comes after them. Nothing here knows which sections a job has.
 use mathlib.Core.Path.{_≡_, refl, ap, _∙_, subst}
 use mathlib.Core.List.{List, [], _∷_, _++_, append-assoc, append-nil}
 use Prim.Native.Nat.{ℕ, suc, _+_, _-_, _*_, _^_, _≤_, _<_}
@@ -7,7 +7,7 @@ use native.Mathlib.Omega.{arith}
 use native.Mathlib.Nat.{mod-lt, div-add-mod'}
 use lib.ListN.{length, take, drop, length-append, length-replicate}
 use lib.Seq.{drop-at, take-at}
-use Rattle.octets.proofs.Lists.{All}
+use Rattle.octets.specs.All.{All}
 use Rattle.elf.specs.Elf.{Section, alignTo, place, after, endOf, padding, laid, headerBytes, nullHeader, sectionHeaders, fileHeader, file}
 use Rattle.elf.specs.Added.{Alignment, one, four, eight}
 use Rattle.elf.proofs.Rows.{FitHeader, FitSection, headersFor, headerRow, headers-row, count-headers, length-row}
@@ -43,7 +43,7 @@ end-after n ss h = omega (arith, length-laid n ss h)
 
 -- ---- contents
 
--- in `f` each section's contents stand at its place, where the sections begin at `n`
+-- in `f` each section's contents are at its place, if the sections begin at `n`
 abbrev pub Held : List ℕ → ℕ → List Section → Type 0
 Held f n [] = Unit {0}
 Held f n (s ∷ ss) = (take (length (s .contents)) (drop (place n s) f) ≡ s .contents) × Held f (after n s) ss
@@ -85,7 +85,7 @@ headers-fit (p ∷ ps) n (s ∷ ss) f a b l =
 
 -- ---- the file
 
--- where the section header table stands
+-- where the section header table is
 abbrev pub tableAt : List Section → ℕ
 tableAt ss = alignTo 8 (endOf 64 ss)
 
@@ -119,7 +119,7 @@ module _ (names : List ℕ) (ss : List Section) (aligned : All Aligned ss) where
         count-headers names 64 ss same,
       )
 
-  -- header 1 and the later ones stand behind header 0
+  -- header 1 and the later ones come after header 0
   pub headers-there : drop (tableAt ss + 64) (file names ss) ≡ headerRow (headersFor names 64 ss)
   headers-there = rw file-split (drop-at (front ss) (headerRow (headersFor names 64 ss)) (tableAt ss + 64) length-front)
 

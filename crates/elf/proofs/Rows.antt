@@ -1,4 +1,4 @@
--- Rows of section headers and of symbols: the records that the bytes stand for, how long a row is, and which numbers fit their fields.
+-- Rows of section headers and of symbols: their records, how long a row is, and which numbers fit their fields.
 use mathlib.Core.Path.{_≡_, refl, ap}
 use mathlib.Core.List.{List, [], _∷_, _++_}
 use Prim.Native.Nat.{ℕ, suc, _*_, _^_, _<_}
@@ -24,7 +24,7 @@ pub record FitSection (s : Section) : Type 0 where
   pub link : s .link < 2 ^ 32
   pub info : s .info < 2 ^ 32
 
--- the headers of sections that stand from `n` on, whose names are at `ps`, as records
+-- the headers of sections that begin at `n`, whose names are at `ps`, as records
 abbrev pub headersFor : List ℕ → ℕ → List Section → List Header
 headersFor [] n [] = []
 headersFor [] n (s ∷ ss) = []

@@ -1,5 +1,5 @@
--- String tables: a string stands at the place that adding it gave, whatever is appended to the table later, and a table is as long as its
--- strings with a zero byte each.
+-- String tables: a string is at the place that adding it gave, whatever is appended later, and a table is as long as its strings with a
+-- zero byte each.
 use mathlib.Core.Path.{_≡_, refl, sym, ap, _∙_}
 use mathlib.Core.List.{List, [], _∷_, _++_, append-assoc, append-nil}
 use Prim.Native.Nat.{ℕ, suc, _+_, _<_}
@@ -19,13 +19,13 @@ pub record Stands (t : List ℕ) (p : ℕ) (s : List ℕ) : Type 0 where
 pub stands-added : (t s : List ℕ) → Stands (addString t s .table) (addString t s .place) s
 stands-added t s = record { rest = []; from = drop-append-seam t (s ++ (0 ∷ [])) }
 
--- a place where a string stands is inside the table, with the whole string and its zero byte
+-- such a place is inside the table, with the whole string and its zero byte
 pub stands-inside : {t s : List ℕ} {p : ℕ} → Stands t p s → p + length s < length t
 stands-inside {t} {s} {p} h =
     let l : length (drop p t) ≡ length s + suc (length (h .rest)) = ap length (h .from) ∙ length-append s (0 ∷ h .rest) in
     omega (arith, length-drop p t)
 
--- and it stands there still when the table has grown
+-- and the string is still there when the table has grown
 pub stands-more : {t s : List ℕ} {p : ℕ} (r : List ℕ) → Stands t p s → Stands (t ++ r) p s
 stands-more {t} {s} {p} r h =
     let inside = stands-inside h in

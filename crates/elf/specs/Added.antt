@@ -9,6 +9,6 @@ pub data Alignment : ℕ → Type 0 where
   four : Alignment 4
   eight : Alignment 8
 
--- a string of `n` bytes in a table of `len`: its place, and the length of the table that holds it and its zero byte
+-- a string of `n` bytes added to a table of `len`: its place, and the table's length with it and its zero byte
 abbrev pub added : ℕ → ℕ → Added
 added len n = record { place = len; len = len + n + 1 }

@@ -1,5 +1,5 @@
 -- ELF64 as the System V gABI gives it, little-endian: the file header, sections in a row, the section header table, symbols and
--- relocations. Section header 0 has the alignment 1 that the Rust writes, where the gABI asks for 0.
+-- relocations. Section header 0 has the alignment 1 that the Rust writes; the gABI asks for 0.
 use mathlib.Core.List.{List, [], _∷_, _++_}
 use Prim.Native.Nat.{ℕ, suc, _+_, _-_, _*_, _/_, _^_}
 use lib.ListN.{length}
@@ -27,26 +27,26 @@ pub record Section : Type 0 where
   pub info : ℕ
   pub contents : List ℕ
 
--- where a section stands whose predecessors end at `n`, and where it ends
+-- where a section begins if those before it end at `n`, and where it ends
 abbrev pub place : ℕ → Section → ℕ
 place n s = alignTo (s .align) n
 
 abbrev pub after : ℕ → Section → ℕ
 after n s = place n s + length (s .contents)
 
--- where sections end that stand from `n` on
+-- where sections end that begin at `n`
 abbrev pub endOf : ℕ → List Section → ℕ
 endOf n [] = n
 endOf n (s ∷ ss) = endOf (after n s) ss
 
--- the bytes of sections that stand from `n` on
+-- the bytes of sections that begin at `n`
 abbrev pub laid : ℕ → List Section → List ℕ
 laid n [] = []
 laid n (s ∷ ss) = padding (s .align) n ++ (s .contents ++ laid (after n s) ss)
 
 -- ---- section headers
 
--- a section header by its numbers: the address, which no relocatable file has, is 0
+-- a section header by its numbers; the address, which no relocatable file has, is 0
 pub record Header : Type 0 where
   pub name : ℕ
   pub kind : ℕ
@@ -67,7 +67,7 @@ headerBytes h =
 abbrev pub nullHeader : Header
 nullHeader = record { name = 0; kind = 0; flags = 0; at = 0; size = 0; link = 0; info = 0; align = 1; entry = 0 }
 
--- the header of a section that stands at `at`, whose name is at `name` of the names' table
+-- the header of a section at `at`, whose name is at `name` of the names' table
 abbrev pub headerFor : ℕ → ℕ → Section → Header
 headerFor name at s =
     record {
@@ -82,7 +82,7 @@ headerFor name at s =
       entry = s .entry;
     }
 
--- the headers of sections that stand from `n` on, whose names are at `names`
+-- the headers of sections that begin at `n`, whose names are at `names`
 abbrev pub sectionHeaders : List ℕ → ℕ → List Section → List ℕ
 sectionHeaders [] n [] = []
 sectionHeaders [] n (s ∷ ss) = []
@@ -91,7 +91,7 @@ sectionHeaders (p ∷ ps) n (s ∷ ss) = headerBytes (headerFor p (place n s) s)
 
 -- ---- the file
 
--- the file header, for a section table at `table` of `count` headers, the names' section at `names`
+-- the file header: a section table of `count` headers is at `table`, and the names' section has the number `names`
 abbrev pub fileHeader : ℕ → ℕ → ℕ → List ℕ
 fileHeader table count names =
     cat ((0x7f ∷ 0x45 ∷ 0x4c ∷ 0x46 ∷ 2 ∷ 1 ∷ 1 ∷ zeros 9) ∷ le 2 1 ∷ le 2 247 ∷ le 4 1 ∷ le 8 0 ∷ le 8 0 ∷ le 8 table

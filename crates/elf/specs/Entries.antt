@@ -1,4 +1,4 @@
--- The code's sections and symbols as the records of numbers that headers and entries are.
+-- The code's sections and symbols as the headers and entries of the definition.
 use Rattle.elf.specs.Elf.{Header, Entry}
 use Rattle.elf.specs.declared.Section.{Section}
 use Rattle.elf.specs.declared.Symbol.{Symbol}

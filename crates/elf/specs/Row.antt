@@ -1,4 +1,4 @@
--- Strings in a row, as a string table holds them, by their bytes, their places and how many bytes they take.
+-- Strings in a row, as in a string table: their bytes, their places and how many bytes they take.
 use mathlib.Core.List.{List, [], _∷_, _++_}
 use Prim.Native.Nat.{ℕ, suc, _+_}
 use lib.ListN.{length}
@@ -8,7 +8,7 @@ abbrev pub joined : List (List ℕ) → List ℕ
 joined [] = []
 joined (s ∷ ss) = (s ++ (0 ∷ [])) ++ joined ss
 
--- their places behind a table of `n` bytes
+-- their places after a table of `n` bytes
 abbrev pub placesAt : ℕ → List (List ℕ) → List ℕ
 placesAt n [] = []
 placesAt n (s ∷ ss) = n ∷ placesAt (n + suc (length s)) ss

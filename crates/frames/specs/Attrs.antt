@@ -1,9 +1,8 @@
--- What the readers of a map's attributes answer, as the definitions of frames have it: an attribute, and the place where the rest of
--- the frame begins.
-use mathlib.Core.Option.{Option, none, some}
+-- What the readers of a map's numbers and attributes answer: a type, or an attribute with the rest of the frame after it, or refusal 3.
 use mathlib.Core.List.{List}
 use Prim.Native.Nat.{ℕ, _≤_}
 use lib.ListN.{drop, length}
+use Rattle.octets.specs.Told.{Told, gives, refuses}
 use Rattle.frames.specs.Frames as model
 use Rattle.ast.specs.declared.«Type».{«Type» as MemberType}
 use Rattle.ast.specs.declared.MapType.{MapType}
@@ -11,32 +10,36 @@ use Rattle.frames.specs.declared.KindRead.{KindRead}
 use Rattle.frames.specs.declared.KindRead.the-variants as kind
 use Rattle.frames.specs.declared.NumberRead.{NumberRead}
 use Rattle.frames.specs.declared.NumberRead.the-variants as number
+use Rattle.frames.specs.declared.TypeAnswer.{TypeAnswer}
+use Rattle.frames.specs.declared.TypeAnswer.the-variants as type
 use Rattle.frames.specs.declared.TypeRead.{TypeRead}
-use Rattle.frames.specs.declared.TypeRead.the-variants as type
+use Rattle.frames.specs.declared.CountAnswer.{CountAnswer}
+use Rattle.frames.specs.declared.CountAnswer.the-variants as count
 use Rattle.frames.specs.declared.CountRead.{CountRead}
-use Rattle.frames.specs.declared.CountRead.the-variants as count
 
-abbrev pub kindOf : KindRead → Option MapType
-kindOf (kind.Is t) = some t
-kindOf kind.Unlisted = none
+abbrev pub kindTold : KindRead → Told MapType
+kindTold (kind.Is t) = gives t
+kindTold kind.Unlisted = refuses 3
 
-abbrev pub numberOf : NumberRead → Option MemberType
-numberOf (number.Is t) = some t
-numberOf number.Unlisted = none
+abbrev pub numberTold : NumberRead → Told MemberType
+numberTold (number.Is t) = gives t
+numberTold number.Unlisted = refuses 3
 
-abbrev pub typeOf : List ℕ → TypeRead → Option model.TypeRead
-typeOf s (type.Read a n) = some (record { attr = a; rest = drop n s })
-typeOf s type.Bad = none
+-- an attribute; the rest of the frame `bs` begins at byte `next`
+abbrev pub typeIs : List ℕ → ℕ → TypeAnswer → Told model.TypeRead
+typeIs bs next (type.Is a) = gives (record { attr = a; rest = drop next bs })
+typeIs bs next type.Bad = refuses 3
 
-abbrev pub countOf : List ℕ → CountRead → Option model.CountRead
-countOf s (count.Read a n) = some (record { attr = a; rest = drop n s })
-countOf s count.Bad = none
+abbrev pub typeTold : List ℕ → TypeRead → Told model.TypeRead
+typeTold bs r = typeIs bs (r .next) (r .answer)
 
--- the next place is not before `at`, and within the frame
-abbrev pub TypeIn : ℕ → List ℕ → TypeRead → Type 0
-TypeIn at s (type.Read a n) = (at ≤ n) × (n ≤ length s)
-TypeIn at s type.Bad = Unit
+abbrev pub countIs : List ℕ → ℕ → CountAnswer → Told model.CountRead
+countIs bs next (count.Is a) = gives (record { attr = a; rest = drop next bs })
+countIs bs next count.Bad = refuses 3
 
-abbrev pub CountIn : ℕ → List ℕ → CountRead → Type 0
-CountIn at s (count.Read a n) = (at ≤ n) × (n ≤ length s)
-CountIn at s count.Bad = Unit
+abbrev pub countTold : List ℕ → CountRead → Told model.CountRead
+countTold bs r = countIs bs (r .next) (r .answer)
+
+-- the next byte is not before `at`, and within the frame
+abbrev pub Onward : ℕ → ℕ → List ℕ → Type 0
+Onward at next bs = (at ≤ next) × (next ≤ length bs)

@@ -26,7 +26,7 @@ pub data Frame : Type 0 where
 abbrev pub bit : ℕ → ℕ → Bool
 bit b p = eqb (p / b % 2) 1
 
--- an attribute read off the front of a frame, and what is left of the frame
+-- an attribute read from the front of a frame, and what is left of the frame
 pub record TypeRead : Type 0 where
   pub attr : TypeAttr
   pub rest : List ℕ
@@ -49,7 +49,7 @@ countIf true bs =
     cond (leb 4 (length bs)) (some (record { attr = count.Present (value (take 4 bs)); rest = drop 4 bs })) none
 countIf false bs = some (record { attr = count.Absent; rest = bs })
 
--- behind a map's types: max_entries if it is present, then the name
+-- after a map's types: max_entries if it is present, then the name
 abbrev pub mapEntries : MapType → TypeAttr → TypeAttr → ℕ → List ℕ → Option Frame
 mapEntries t k v p bs =
     elim (countIf (bit 4 p) bs) [ none ↦ none | some n ↦ some (mapDecl t k v (n .attr) (n .rest)) ]
@@ -81,7 +81,7 @@ programFrame (n ∷ bs) = cond (leb n (length bs)) (some (program (take n bs) (d
 abbrev pub relocationFrame : List ℕ → Option Frame
 relocationFrame bs = cond (leb 8 (length bs)) (some (relocation (value (take 8 bs)) (drop 8 bs))) none
 
--- code, dst, src, 1 byte each; off 2; imm 4; exactly 9 bytes. A frame 06 is the code that it stands for.
+-- code, dst, src, 1 byte each; off 2; imm 4; exactly 9 bytes. A frame 06 counts as the code that it gives.
 abbrev pub instructionFrame : List ℕ → Option Frame
 instructionFrame [] = none
 instructionFrame (c ∷ []) = none

@@ -1,4 +1,4 @@
--- The names of sections in a row: short rows of the format's own strings, and what the loop over the programs keeps.
+-- The names of sections in a row: short rows of the format's own strings, and the invariant of the loop over the programs.
 use mathlib.Core.Path.{_≡_, ap}
 use mathlib.Core.List.{List, [], _∷_, _++_}
 use Prim.Native.Nat.{ℕ, _+_, _≤_, _<_}
@@ -28,7 +28,7 @@ map-sections maps h = rw (ne-eqb maps 0 (omega arith))
 -- ---- the programs' sections
 
 module _ (text : List ℕ) (ps : List Program) (count : ℕ) where
-  -- the names from program `i` on, and those behind the name of a program's own section
+  -- the names from program `i` on, and those after the name of a program's own section
   abbrev pub namesFrom : ℕ → List (List ℕ)
   namesFrom i = programSectionNames text (drop i (take count ps))
 
@@ -49,13 +49,13 @@ module _ (text : List ℕ) (ps : List Program) (count : ℕ) where
   section-room i t h g =
       omega (arith, go-room (sectionOf i ++ (0 ∷ [])) (joined (namesBehind i)) (go-as _ (section-from i t h) g), length-string (sectionOf i))
 
-  -- a program's own section more
+  -- one more: a program's own section
   pub section-on : {d out whole : List ℕ} {start at : ℕ} (i : ℕ) (out′ : List ℕ) (at′ : ℕ) → ProgramsThere text ps count → i < count
       → Going d start whole out at (joined (namesFrom i)) → out′ ≡ over out at (sectionOf i ++ (0 ∷ [])) → at′ ≡ at + length (sectionOf i ++ (0 ∷ []))
       → Going d start whole out′ at′ (joined (namesBehind i))
   section-on i out′ at′ t h g e n = go-on (sectionOf i ++ (0 ∷ [])) (joined (namesBehind i)) out′ at′ (go-as _ (section-from i t h) g) e n
 
-  -- and then its REL section, where it has relocations
+  -- and then its REL section, if it has relocations
   rel-from : (i : ℕ) → 0 < relocsOf i → joined (namesBehind i) ≡ ((ascii ".rel" ++ sectionOf i) ++ (0 ∷ [])) ++ joined (namesFrom (i + 1))
   rel-from i h = rw (ne-eqb (relocsOf i) 0 (omega arith))
 

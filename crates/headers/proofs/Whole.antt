@@ -4,24 +4,24 @@ use mathlib.Core.Path.{_≡_, refl, _∙_, ap}
 use mathlib.Core.List.{List, [], _∷_, _++_, map, map-append, append-assoc}
 use Prim.Native.Nat.{ℕ, _+_, _-_, _≤_}
 use native.Mathlib.Omega.{arith}
-use lib.ListN.{length, take, drop, length-drop}
-use lib.Seq.{length-take-le}
+use lib.ListN.{length, take}
 use lib.Dec.{eqb·suc-zero}
 use borrow.Rule.Slice.PartMut.{putMid}
 use Rattle.octets.specs.Octets.{ascii}
 use Rattle.octets.specs.Over.{over}
 use Rattle.octets.proofs.Filling.{Filling, fill-start, fill-as, fill-on, fill-done, over-part}
-use Rattle.ast.specs.Job.{Map}
+use Rattle.ast.specs.Job.{Map, Relocation}
 use Rattle.elf.specs.Strings.{emptyTable}
 use Rattle.elf.specs.Row.{joined}
 use Rattle.elf.proofs.Joined.{table-joined, joined-append}
 use Rattle.object.specs.declared.Slot.{Slot}
 use Rattle.object.specs.declared.Program.{Program}
 use Rattle.object.specs.declared.BpfObject.{BpfObject}
-use Rattle.object.specs.Read.{nameIn, relocationsIn, programsIn, declaredMaps, jobIn}
-use Rattle.object.specs.Kept.{Kept, AllKept}
+use Rattle.object.specs.Read.{nameIn, programIn, programsIn, declaredMaps, jobIn}
+use Rattle.object.specs.Kept.{Kept}
 use Rattle.object.specs.Object.{mapSections, relSections, past, programSections, pastAll, firstProgram}
-use Rattle.strtab.proofs.Whole.{count-declared, programs-there}
+use Rattle.object.proofs.Slots.{AllCounted, all-counted}
+use Rattle.strtab.proofs.Whole.{count-declared}
 use Rattle.headers.specs.Names.{sectionNames, shstrtabOf, mapSectionNames, relName, programSectionNames, tableNames}
 
 -- ---- the names by the tables
@@ -30,23 +30,21 @@ map-section-names : (ms : List Map) → map (λ s. s .name) (mapSections ms) ≡
 map-section-names [] = refl
 map-section-names (m ∷ ms) = rw (eqb·suc-zero (length ms))
 
-rel-names : (ms : List Map) (symtab at : ℕ) (name text : List ℕ) (ss : List Slot)
-    → map (λ s. s .name) (relSections ms symtab at name (relocationsIn text ss)) ≡ relName (length ss) name
-rel-names ms symtab at name text [] = refl
-rel-names ms symtab at name text (s ∷ ss) = rw (eqb·suc-zero (length ss))
+rel-names : (symtab at : ℕ) (name : List ℕ) (rs : List Relocation)
+    → map (λ s. s .name) (relSections symtab at name rs) ≡ relName (length rs) name
+rel-names symtab at name [] = refl
+rel-names symtab at name (r ∷ rs) = rw (eqb·suc-zero (length rs))
 
-pub program-section-names : (ms : List Map) (symtab at : ℕ) (text : List ℕ) (slots : List Slot) (ps : List Program) → length slots ≡ 256 → AllKept text 256 ps
-    → map (λ s. s .name) (programSections ms symtab at (programsIn text slots ps)) ≡ programSectionNames text ps
-program-section-names ms symtab at text slots [] long k = refl
-program-section-names ms symtab at text slots (p ∷ ps) long k =
+program-section-names : (symtab at : ℕ) (text : List ℕ) (slots : List Slot) (ps : List Program) → AllCounted text slots ps
+    → map (λ s. s .name) (programSections symtab at (programsIn text slots ps)) ≡ programSectionNames text ps
+program-section-names symtab at text slots [] c = refl
+program-section-names symtab at text slots (p ∷ ps) c =
     let name = nameIn text (p .section) in
-    let mine = take (p .relocs) (drop (p .first) slots) in
-    let later = past (relocationsIn text mine) at in
-    let n : length mine ≡ p .relocs = length-take-le (p .relocs) (drop (p .first) slots) (rw length-drop (omega (arith, k .0 .slots))) in
-    let r = rel-names ms symtab at name text mine ∙ ap (λ (i : ℕ). relName i name) n in
+    let rs = programIn text slots p .relocations in
+    let r = rel-names symtab at name rs ∙ ap (λ (i : ℕ). relName i name) (c .0) in
     ap (λ (r : List (List ℕ)). name ∷ r)
-    (map-append (λ s. s .name) (relSections ms symtab at name (relocationsIn text mine)) (programSections ms symtab later (programsIn text slots ps))
-    ∙ rw (r, program-section-names ms symtab later text slots ps long (k .1)))
+    (map-append (λ s. s .name) (relSections symtab at name rs) (programSections symtab (past rs at) (programsIn text slots ps))
+    ∙ rw (r, program-section-names symtab (past rs at) text slots ps (c .1)))
 
 -- ---- the tables of an accepted job
 
@@ -63,9 +61,9 @@ module _ (text : List ℕ) (o : BpfObject) (k : Kept text o) where
       let ps = programsIn text (o .slots) (take (o .«program_count») (o .programs)) in
       let first = firstProgram ms in
       let m = map-section-names ms ∙ ap mapSectionNames (count-declared text o k) in
-      let p = program-section-names ms (pastAll ps first) first text (o .slots) (take (o .«program_count») (o .programs)) (k .sound .slots) (programs-there text o k .kept) in
-      let both : map (λ s. s .name) (mapSections ms ++ programSections ms (pastAll ps first) first ps) ≡ mapNamed ++ programNamed =
-      map-append (λ s. s .name) (mapSections ms) (programSections ms (pastAll ps first) first ps) ∙ rw (m, p) in
+      let p = program-section-names (pastAll ps first) first text (o .slots) (take (o .«program_count») (o .programs)) (all-counted text o k) in
+      let both : map (λ s. s .name) (mapSections ms ++ programSections (pastAll ps first) first ps) ≡ mapNamed ++ programNamed =
+      map-append (λ s. s .name) (mapSections ms) (programSections (pastAll ps first) first ps) ∙ rw (m, p) in
       ap (λ (r : List (List ℕ)). ascii "license" ∷ r ++ tableNames) both
       ∙ ap (λ (r : List (List ℕ)). ascii "license" ∷ r) (append-assoc mapNamed programNamed tableNames)
 
@@ -76,7 +74,7 @@ module _ (text : List ℕ) (o : BpfObject) (k : Kept text o) where
       ∙ ap (λ (r : List ℕ). 0 ∷ (ascii "license" ++ (0 ∷ [])) ++ r)
       (joined-append mapNamed (programNamed ++ tableNames) ∙ ap (λ (r : List ℕ). joined mapNamed ++ r) (joined-append programNamed tableNames))
 
-  -- what is still to come behind each piece of `.shstrtab`, and the pieces one by one
+  -- what is still to come after each piece of `.shstrtab`, and the pieces one by one
   abbrev afterPrograms : List ℕ
   afterPrograms = joined tableNames ++ []
 

@@ -1,4 +1,4 @@
--- The names of an object's sections, of which `.shstrtab` is made, by the definition of the object and by the tables of the code.
+-- The names of an object's sections, which make up `.shstrtab`: by the definition of the object, and by the tables of the code.
 use mathlib.Core.Bool.{cond}
 use mathlib.Core.List.{List, [], _∷_, _++_, map}
 use Prim.Native.Nat.{ℕ}
@@ -25,7 +25,7 @@ shstrtabOf j = addStrings emptyTable (sectionNames j) .table
 abbrev pub mapSectionNames : ℕ → List (List ℕ)
 mapSectionNames maps = cond (eqb maps 0) [] (ascii ".maps" ∷ ascii ".BTF" ∷ [])
 
--- the REL section of a program with `relocs` relocations, whose section has that name
+-- the REL section of a program with `relocs` relocations, by the name of its section
 abbrev pub relName : ℕ → List ℕ → List (List ℕ)
 relName relocs name = cond (eqb relocs 0) [] ((ascii ".rel" ++ name) ∷ [])
 
@@ -35,6 +35,6 @@ programSectionNames text [] = []
 programSectionNames text (p ∷ ps) =
     nameIn text (p .section) ∷ relName (p .relocs) (nameIn text (p .section)) ++ programSectionNames text ps
 
--- the tables behind them
+-- the tables after them
 abbrev pub tableNames : List (List ℕ)
 tableNames = ascii ".symtab" ∷ ascii ".strtab" ∷ ascii ".shstrtab" ∷ []

@@ -11,10 +11,11 @@ ghost use Rattle.object.specs.Kept.{Named, Kept};
 ghost use Rattle.strtab.specs.Rows.{ProgramsThere};
 ghost use Rattle.headers.specs.Names.{mapSectionNames, programSectionNames, tableNames, shstrtabOf};
 use ast::Name;
+use elf::Section;
 use object::BpfObject;
 use object::Program;
 
-// A section's name as it stands in the text, with its zero byte, over what stands at `at`; the place behind it.
+// A section's name as it is in the text, with its zero byte, over what is at `at`; returns the place after it.
 fn put_section(out: &mut [u8], at: usize, text: &[u8], name: Name) -> usize
     requires { ⌜ Named (now text) name ⌝ }
     requires { ⌜ at + length (nameIn (now text) name) + 1 ≤ length (now out) ⌝ }
@@ -33,11 +34,11 @@ fn put_rel_name(out: &mut [u8], at: usize, text: &[u8], name: Name) -> usize
     ensures { λ _. ⌜ now (out .exit) ≡ over (now (out .entry)) at ((ascii ".rel" ++ nameIn (now (text .entry)) name) ++ (0 ∷ [])) ⌝ }
     ensures { λ r. ⌜ r ≡ at + length ((ascii ".rel" ++ nameIn (now (text .entry)) name) ++ (0 ∷ [])) ⌝ }
 {
-    octets::copy(&mut out[at..at + 4], b".rel");
-    put_section(out, at + 4, text, name)
+    octets::copy(&mut out[at..at + Section::REL_NAME_LEN], b".rel");
+    put_section(out, at + Section::REL_NAME_LEN, text, name)
 }
 
-// The names of the two sections that an object with maps has, and none where there is no map; the place behind them.
+// The names of `.maps` and `.BTF`, if there are maps; returns the place after them.
 fn put_map_sections(out: &mut [u8], at: usize, maps: usize) -> usize
     requires { ⌜ at + length (joined (mapSectionNames maps)) ≤ length (now out) ⌝ }
     ensures { λ _. ⌜ now (out .exit) ≡ over (now (out .entry)) at (joined (mapSectionNames maps)) ⌝ }
@@ -50,13 +51,13 @@ fn put_map_sections(out: &mut [u8], at: usize, maps: usize) -> usize
     named::put_string_at(out, next, b".BTF")
 }
 
-// The names of the programs' sections, each with that of its REL section behind it where it has one, from `start` on; the place behind
+// The names of the programs' sections from `start` on, each followed by that of its REL section if it has one; returns the place after
 // them.
 fn put_program_sections(
     out: &mut [u8],
     start: usize,
     text: &[u8],
-    programs: [Program; 32],
+    programs: [Program; BpfObject::PROGRAMS],
     count: usize,
 ) -> usize
     requires { ⌜ ProgramsThere (now text) programs count ⌝ }
@@ -88,15 +89,15 @@ fn put_table_names(out: &mut [u8], at: usize)
 }
 
 // `.shstrtab`, into a part of exactly its length.
-pub fn put_shstrtab(out: &mut [u8], text: &[u8], object: BpfObject)
+pub fn build_shstrtab(out: &mut [u8], text: &[u8], object: BpfObject)
     requires { ⌜ Kept (now text) object ⌝ }
     requires { ⌜ length (now out) ≡ length (shstrtabOf (jobIn (now text) object)) ⌝ }
     ensures { λ _. ⌜ now (out .exit) ≡ shstrtabOf (jobIn (now (text .entry)) object) ⌝ }
 {
     let programs = object.programs;
-    octets::clear(&mut out[0..1]);
-    named::put_string_at(out, 1, b"license");
-    let at = put_map_sections(out, 9, object.map_count);
+    octets::clear(&mut out[0..Section::LICENSE_NAME_AT]);
+    named::put_string_at(out, Section::LICENSE_NAME_AT, b"license");
+    let at = put_map_sections(out, Section::NEXT_NAME_AT, object.map_count);
     let behind = put_program_sections(out, at, text, programs, object.program_count);
     put_table_names(out, behind);
 }

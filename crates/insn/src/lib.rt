@@ -1,5 +1,5 @@
-// The eight bytes of a BPF instruction: insn.rs of the original. `off` and `imm` are kept as the numbers that their bytes give, since a
-// job names them by their bytes; the original's signed numbers have the same bytes.
+// The eight bytes of a BPF instruction: insn.rs of the original. `off` and `imm` are unsigned here, since a job gives their bytes; the
+// original's signed numbers have the same bytes.
 ghost use mathlib.Core.Path.{_≡_};
 ghost use Rattle.insn.specs.Insn.{insnOf, insnBytes};
 
@@ -12,6 +12,9 @@ pub struct Insn {
 }
 
 impl Insn {
+    // How many bytes an instruction has.
+    pub const SIZE: usize = 8;
+
     pub const WIDTHS: [u8; 4] = [1, 1, 2, 4];
 
     pub fn new(code: u8, dst: u8, src: u8, off: u16, imm: u32) -> Self
@@ -27,7 +30,7 @@ impl Insn {
     }
 
     // Higher bits of `dst` and `src` are dropped.
-    pub fn to_le_bytes(self) -> [u8; 8]
+    pub fn to_le_bytes(self) -> [u8; Insn::SIZE]
         ensures { λ r. ⌜ r ≡ insnBytes (self .code) (self .dst) (self .src) (self .off) (self .imm) ⌝ }
     {
         let registers = (self.dst & 0x0f) | ((self.src & 0x0f) << 4);
@@ -37,7 +40,7 @@ impl Insn {
             self.off as u64,
             self.imm as u64,
         ];
-        let mut out = [0u8; 8];
+        let mut out = [0u8; Insn::SIZE];
         octets::put_fields(&mut out, &Insn::WIDTHS, &values);
         out
     }

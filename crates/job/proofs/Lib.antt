@@ -2,5 +2,4 @@ pub mod Lines
 pub mod Walking
 pub mod Body
 pub mod Steps
-pub mod Ending
 pub mod Single

@@ -11,10 +11,10 @@ use borrow.Author.Tests.{ne-eqb}
 use Rattle.lines.specs.Lines.{Line, lines, unhex, frameBytes}
 use Rattle.lines.specs.Ends.{lineEnd}
 use Rattle.lines.specs.Hex.{there, isFrame}
-use Rattle.lines.specs.declared.LineEnd.the-variants.{Ended, Cut}
+use Rattle.octets.specs.Told.{gives, refuses}
 use Rattle.lines.proofs.Laws.{is-there, frame-hex, line, cut, line-ended, line-cut}
 use Rattle.lines.proofs.Bytes.{bytes-length}
-use Rattle.refusals.specs.Checked.{Stage, Checked, Step, takeLine, takeLines, takeBytes, went, stopped, faulty}
+use Rattle.refusals.specs.Checked.{Stage, Step, takeLine, takeLines, takeBytes, went, stopped, faulty}
 use Rattle.refusals.specs.Refusal.{numberOf}
 use Rattle.judge.specs.Judged.{Framed, lineBytes, Judged}
 use Rattle.judge.specs.declared.Verdict.{Verdict}
@@ -27,22 +27,22 @@ pub not-there : {A : Type 0} (o : Option A) → there o ≡ false → o ≡ none
 not-there none e = refl
 not-there (some a) e = absurd (false≢true (sym e))
 
--- ---- a line that is none
+-- ---- a line that is not of the format
 
 pub refused-line : (s : Stage) (l : Line) (ls : List Line) → frameBytes l ≡ none → takeLines s (l ∷ ls) ≡ faulty 2 (suc (s .lines))
 refused-line s l ls e = let t : takeLine s l ≡ stopped 2 = rw (e, takeLine) in rw (t, takeLines)
 
-pub cut-line : (text : List ℕ) (at : ℕ) → at < length text → lineEnd text at ≡ Cut → (s : Stage) → takeLines s (lines (drop at text)) ≡ faulty 2 (suc (s .lines))
+pub cut-line : (text : List ℕ) (at : ℕ) → at < length text → lineEnd text at ≡ refuses 2 → (s : Stage) → takeLines s (lines (drop at text)) ≡ faulty 2 (suc (s .lines))
 cut-line text at h e s = ap (takeLines s) (line-cut text at h e) ∙ refused-line s (cut (drop at text)) [] refl
 
-pub bad-line : (text : List ℕ) (at end : ℕ) → lineEnd text at ≡ Ended end → isFrame (take (end - at) (drop at text)) ≡ false → (s : Stage)
+pub bad-line : (text : List ℕ) (at end : ℕ) → lineEnd text at ≡ gives end → isFrame (take (end - at) (drop at text)) ≡ false → (s : Stage)
     → takeLines s (lines (drop at text)) ≡ faulty 2 (suc (s .lines))
 bad-line text at end e f s =
     ap (takeLines s) (line-ended text at end e .2) ∙ refused-line s (line (take (end - at) (drop at text))) (lines (drop (end + 1) text)) (not-there _ f)
 
--- ---- a line that is one
+-- ---- a line of the format
 
-pub good-line : (text : List ℕ) (at end : ℕ) → length text ≤ 65535 → lineEnd text at ≡ Ended end → isFrame (take (end - at) (drop at text)) ≡ true → Next text at end
+pub good-line : (text : List ℕ) (at end : ℕ) → length text ≤ 65535 → lineEnd text at ≡ gives end → isFrame (take (end - at) (drop at text)) ≡ true → Next text at end
 good-line text at end few e f =
     let r = line-ended text at end e in
     let h = frame-hex (take (end - at) (drop at text)) f in
@@ -63,7 +63,7 @@ line-bytes text at end f =
     let z : length (take (end - at) (drop at text)) ≡ 0 → ⊥ = λ e. omega (arith, f .first) in
     rw (ne-eqb (length (take (end - at) (drop at text))) 0 z) (is-there (unhex (take (end - at) (drop at text))) (f .hex))
 
--- the definition goes on behind the line, or stops at it
+-- the definition goes on after the line, or stops at it
 module _ (text : List ℕ) (at end : ℕ) (next : Next text at end) (s : Stage) where
   on-line : (step : Step) → takeBytes s (lineBytes text at end) ≡ step → takeLine s (line (take (end - at) (drop at text))) ≡ step
   on-line step e = rw (line-bytes text at end (next .framed), takeLine) e
@@ -78,6 +78,4 @@ module _ (text : List ℕ) (at end : ℕ) (next : Next text at end) (s : Stage) 
   -- what a verdict on the line tells of the definition
   pub saying : (v : Verdict) → Judged text s (lineBytes text at end) v → Saying text at s v end
   saying (verdict.Refused r) j = stops-at (numberOf r) (j .0) ∙ ap (faulty (numberOf r)) (sym (j .1))
-  saying (verdict.Declares d) j = (next, j)
-  saying (verdict.Code n) j = (next, j)
-  saying (verdict.Reloc e) j = (next, j)
+  saying (verdict.Takes o) j = (next, j)

@@ -1,5 +1,5 @@
--- Single outcomes: two answers of `parse` that meet its promise are the same when read. Slots of a table past its count, and the tables
--- beside a refusal, are not read by anyone, and are not pinned.
+-- Single outcomes: two answers of `parse` that meet its promise are the same when read. The slots of a table past its count, and the tables
+-- beside a refusal, may differ: nobody reads them.
 use mathlib.Core.Path.{_≡_, sym, _∙_}
 use contract.Lifetimes.{Lfts}
 use borrow.Fn.Kinds.{Dens, resT, endedOf}

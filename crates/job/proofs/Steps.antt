@@ -1,7 +1,6 @@
 -- The lines of programs: one that opens a program, code, relocations, and the end of the text.
-use mathlib.Core.Path.{_≡_, refl, sym, _∙_, ap, subst}
+use mathlib.Core.Path.{_≡_, refl, sym, _∙_, ap}
 use mathlib.Core.Bool.{Bool, true, false}
-use mathlib.Core.Option.{Option, none, some}
 use mathlib.Core.List.{List, [], _∷_, _++_, append-nil}
 use Prim.Native.Nat.{ℕ, zero, suc, _+_, _-_, _*_, _≤_, _<_}
 use native.Mathlib.Nat.{add-zero}
@@ -10,40 +9,41 @@ use native.Mathlib.Omega.{arith}
 use lib.Dec.{eqb}
 use lib.ListN.{length, take, drop, getD, set, length-append, length-set}
 use lib.Seq.{take-suc-set, getD-set-same, getD-set-other}
-use borrow.Author.Tests.{lt-ltb, eq-eqb, ne-eqb, eqb-true, eqb-false}
+use borrow.Author.Tests.{lt-ltb, eqb-true, eqb-false}
 use Rattle.octets.proofs.Laws.{read-done}
-use Rattle.lines.specs.Lines.{Line, lines, frameBytes}
+use Rattle.lines.specs.Lines.{lines}
 use Rattle.lines.specs.Hex.{there}
-use Rattle.lines.proofs.Laws.{line}
 use Rattle.lines.proofs.Parts.{line-length}
-use Rattle.frames.specs.Frames.{frameOf, program, code, relocation}
-use Rattle.ast.specs.Job.{Map, Relocation, Job}
+use Rattle.frames.specs.Frames.{frameOf, program, code}
+use Rattle.ast.specs.Job.{Job}
 use Rattle.ast.specs.Job as job
 use Rattle.ast.specs.declared.Name.{Name}
 use Rattle.ast.specs.declared.MapDecl.{MapDecl}
+use Rattle.object.specs.declared.Entry.the-variants.{Taken}
 use Rattle.object.specs.declared.Slot.{Slot}
 use Rattle.object.specs.declared.Program.{Program}
 use Rattle.object.specs.declared.BpfObject.{BpfObject}
 use Rattle.object.specs.declared.Added.{Added}
 use Rattle.object.specs.declared.Adding.the-variants.{Done}
-use Rattle.object.specs.Tables.{emptySlot, Sound, done, withLicense, withMap, addedMap, withProgram}
-use Rattle.object.specs.Read.{nameIn, slotIn, relocationsIn, frameCode, lineCode, codeOf, body, programIn, programsIn, declaredMaps, jobIn}
-use Rattle.object.specs.Kept.{Named, ResolvedSlot, AllFrames, ProgramKept, AllKept, Kept}
-use Rattle.object.proofs.Programs.{take-next, drop-next, part-more, code-snoc, frames-snoc, relocations-snoc, programs-snoc, programs-kept, kept-more, kept-snoc}
-use Rattle.refusals.specs.Checked.{Stage, takeBytes, takeLines, empty, went, accepted, advance, declare, onLast, withCode, withRelocation}
+use Rattle.object.specs.Tables.{emptySlot, Sound, done, withLicense, withMap, addedMap}
+use Rattle.object.specs.Read.{nameIn, relocationAt, relocationsIn, frameCode, codeOf, body, programIn, programsIn, declaredMaps, jobIn}
+use Rattle.object.specs.Kept.{Named, ResolvedSlot, ProgramKept, Kept}
+use Rattle.object.proofs.Programs.{part-more, relocations-snoc, programs-snoc, programs-kept, kept-more, kept-snoc}
+use Rattle.refusals.specs.Checked.{takeBytes, takeLines, empty, went, accepted, relocated, added, onLast, withCode, withRelocation}
 use Rattle.lookup.specs.Names.{Names}
 use Rattle.judge.specs.Judged.{lineBytes, Held, Declared, declarationFrame}
 use Rattle.judge.specs.declared.Declaration.{Declaration}
 use Rattle.judge.specs.declared.Declaration.the-variants.{License, Map as MapOf, Program as ProgramOf}
 use Rattle.job.specs.declared.Built.{Built}
-use Rattle.job.specs.Walked.{Next, openedAt, codeAdded, relocAdded, closedOf, closedObject, withSlot, builtWith, builtOf, openIn, stageIn}
-use Rattle.job.proofs.Lines.{line-bytes}
+use Rattle.job.specs.declared.Parsed.{Parsed}
+use Rattle.job.specs.declared.Parsing.the-variants.{Accepted}
+use Rattle.job.specs.Walked.{Next, parsedAs, finishedWith, finishedOf, parsedIn, ParsedKept, openedAt, codeAdded, relocAdded, closedOf, closedObject, withSlot, builtWith, builtOf, stageIn}
 use Rattle.job.proofs.Body.{More, more}
-use Rattle.job.proofs.Walking.{Opened, OpenedIf, Walking, maps-counted, programs-counted, taken, license-on, map-on}
+use Rattle.job.proofs.Walking.{Opened, Walking, maps-counted, programs-counted, taken, license-on, map-on}
 
 -- ---- closing the open program
 
--- what stands of the object when the open program is added
+-- what holds of the object when the open program is added
 pub record Closed (text : List ℕ) (o : BpfObject) (opened : ℕ) (p : Program) (n : ℕ) : Type 0 where
   pub done : closedOf o opened p ≡ done (closedObject o opened p)
   pub kept : Kept text (closedObject o opened p)
@@ -104,6 +104,10 @@ closing text o (suc zero) p n at w =
       programs = refl;
     }
 
+-- a job with one program more
+abbrev one-more : job.Program → Job → Job
+one-more p j = record { licence = j .licence; maps = j .maps; programs = j .programs ++ (p ∷ []) }
+
 -- ---- the last program of a list
 
 pub on-last : (f : job.Program → job.Program) (ps : List job.Program) (q : job.Program) → onLast f (ps ++ (q ∷ [])) ≡ ps ++ (f q ∷ [])
@@ -115,7 +119,7 @@ module _ (text : List ℕ) (o : BpfObject) (opened : ℕ) (p : Program) (n at en
   -- ---- a program's line
 
   pub program-on : (a b : Name)
-      → takeBytes (stageIn text o opened p n) (lineBytes text at end) ≡ went (advance (program (nameIn text a) (nameIn text b)) (stageIn text o opened p n))
+      → takeBytes (stageIn text o opened p n) (lineBytes text at end) ≡ added (stageIn text o opened p n) (program (nameIn text a) (nameIn text b))
       → Named text a → Named text b → length (stageIn text o opened p n .job .programs) < 32
       → Walking text (closedObject o opened p) 1 (openedAt a b (end + 1) (o .«reloc_count»)) (n + 1) (end + 1)
   program-on a b e k l few =
@@ -141,8 +145,8 @@ module _ (text : List ℕ) (o : BpfObject) (opened : ℕ) (p : Program) (n at en
         counted = omega (arith, w .counted, next .framed .first);
         early = omega arith;
         whole =
-            taken text o opened p n at end w next (program (nameIn text a) (nameIn text b)) (closedObject o opened p) 1 (openedAt a b (end + 1) (o .«reloc_count»)) e
-            (ap (declare (program (nameIn text a) (nameIn text b))) (sym (c .job))) (add-zero (o .«reloc_count») ∙ sym (c .relocs));
+            taken text o opened p n at end w next _ _ (closedObject o opened p) 1 (openedAt a b (end + 1) (o .«reloc_count»)) e
+            (ap (one-more (record { section = nameIn text a; symbol = nameIn text b; code = []; relocations = [] })) (sym (c .job))) (sym (c .relocs));
       }
 
   -- ---- a line of the open program's body
@@ -160,7 +164,7 @@ module _ (text : List ℕ) (o : BpfObject) (opened : ℕ) (p : Program) (n at en
 
   pub code-on : (k : ℕ)
       → takeBytes (stageIn text o opened p n) (lineBytes text at end)
-      ≡ went (advance (code (frameCode (frameOf (lineBytes text at end)))) (stageIn text o opened p n))
+      ≡ added (stageIn text o opened p n) (code (frameCode (frameOf (lineBytes text at end))))
       → length (frameCode (frameOf (lineBytes text at end))) ≡ k → 0 < length (stageIn text o opened p n .job .programs) → k ≤ length (lineBytes text at end)
       → Walking text o opened (codeAdded p k) (n + 1) (end + 1)
   code-on k e l h g =
@@ -186,13 +190,14 @@ module _ (text : List ℕ) (o : BpfObject) (opened : ℕ) (p : Program) (n at en
         counted = omega (arith, w .counted, next .framed .first);
         early = omega (arith, w .early);
         whole =
-            taken text o opened p n at end w next (code (frameCode (frameOf (lineBytes text at end)))) o opened (codeAdded p k) e (rw i (job-code m)) (add-zero (o .«reloc_count»));
+            taken text o opened p n at end w next _ _ o opened (codeAdded p k) e (rw i (job-code m)) refl;
       }
     where
       bytes-half : end - at ≡ 2 * length (lineBytes text at end)
       bytes-half = line-length text at end (omega (arith, next .framed .first)) (next .framed .last) (next .framed .hex)
 
-      job-code : More text p at end → declare (code (frameCode (frameOf (lineBytes text at end)))) (stageIn text o 1 p n .job) ≡ stageIn text o 1 (codeAdded p k) (n + 1) .job
+      job-code : More text p at end
+          → with-programs text o (onLast (withCode (frameCode (frameOf (lineBytes text at end)))) (stageIn text o 1 p n .job .programs)) ≡ stageIn text o 1 (codeAdded p k) (n + 1) .job
       job-code m =
           ap (with-programs text o)
           (on-last (withCode (frameCode (frameOf (lineBytes text at end)))) (programsIn text (o .slots) (take (o .«program_count») (o .programs))) (programIn text (o .slots) p)
@@ -209,10 +214,10 @@ module _ (text : List ℕ) (o : BpfObject) (opened : ℕ) (p : Program) (n at en
 
   pub reloc-on : (x : Slot)
       → takeBytes (stageIn text o opened p n) (lineBytes text at end)
-      ≡ went (advance (relocation (slotIn text x .offset) (slotIn text x .map)) (stageIn text o opened p n))
-      → ResolvedSlot text (declaredMaps text o) x → o .«reloc_count» < 256 → 0 < length (stageIn text o opened p n .job .programs)
+      ≡ went (relocated (stageIn text o opened p n) (relocationAt text (x .place) (x .len) (x .map)))
+      → x .entry ≡ Taken → ResolvedSlot text (declaredMaps text o) x → o .«reloc_count» < 256 → 0 < length (stageIn text o opened p n .job .programs)
       → frameCode (frameOf (lineBytes text at end)) ≡ [] → Walking text (withSlot o x) opened (relocAdded p) (n + 1) (end + 1)
-  reloc-on x e r few h c =
+  reloc-on x e t r few h c =
       let i = is-open h in
       let q = the-open i in
       let m = more text o p at end q next in
@@ -255,7 +260,7 @@ module _ (text : List ℕ) (o : BpfObject) (opened : ℕ) (p : Program) (n at en
         counted = omega (arith, w .counted, next .framed .first);
         early = omega (arith, w .early);
         whole =
-            taken text o opened p n at end w next (relocation (slotIn text x .offset) (slotIn text x .map)) (withSlot o x) opened (relocAdded p) e (rw i (job-reloc q z (omega (arith, s .slots)))) refl;
+            taken text o opened p n at end w next _ _ (withSlot o x) opened (relocAdded p) e (rw i (job-reloc t q z (omega (arith, s .slots)))) refl;
       }
     where
       resolved : o .«reloc_count» < length (o .slots) → ResolvedSlot text (declaredMaps text o) x → (i : ℕ) → i < o .«reloc_count» + 1
@@ -269,23 +274,24 @@ module _ (text : List ℕ) (o : BpfObject) (opened : ℕ) (p : Program) (n at en
               rw (getD-set-other (o .slots) (o .«reloc_count») i x emptySlot f) (w .kept .slots i (omega (arith, f)))
 
       -- the open program with the relocation
-      program-reloc : Opened text o p at → codeOf (body text (p .from) (p .lines + 1)) ≡ codeOf (body text (p .from) (p .lines)) → o .«reloc_count» < length (o .slots)
+      program-reloc : x .entry ≡ Taken → Opened text o p at → codeOf (body text (p .from) (p .lines + 1)) ≡ codeOf (body text (p .from) (p .lines)) → o .«reloc_count» < length (o .slots)
           → programIn text (set (o .slots) (o .«reloc_count») x) (relocAdded p)
-          ≡ withRelocation (record { offset = slotIn text x .offset; map = slotIn text x .map }) (programIn text (o .slots) p)
-      program-reloc q z l =
+          ≡ withRelocation (relocationAt text (x .place) (x .len) (x .map)) (programIn text (o .slots) p)
+      program-reloc i q z l =
           let t : take (p .relocs + 1) (drop (p .first) (set (o .slots) (p .first + p .relocs) x)) ≡ take (p .relocs) (drop (p .first) (o .slots)) ++ (x ∷ []) =
           rw (add-one (p .relocs)) (part-more (o .slots) (p .first) (p .relocs) x (omega (arith, q .slots))) in
-          rw (← q .slots, t, relocations-snoc text (take (p .relocs) (drop (p .first) (o .slots))) x, z)
+          rw (← q .slots, t, relocations-snoc text (take (p .relocs) (drop (p .first) (o .slots))) x, z, i)
 
-      job-reloc : Opened text o p at → codeOf (body text (p .from) (p .lines + 1)) ≡ codeOf (body text (p .from) (p .lines)) → o .«reloc_count» < length (o .slots)
-          → declare (relocation (slotIn text x .offset) (slotIn text x .map)) (stageIn text o 1 p n .job) ≡ stageIn text (withSlot o x) 1 (relocAdded p) (n + 1) .job
-      job-reloc q z l =
+      job-reloc : x .entry ≡ Taken → Opened text o p at → codeOf (body text (p .from) (p .lines + 1)) ≡ codeOf (body text (p .from) (p .lines)) → o .«reloc_count» < length (o .slots)
+          → with-programs text o (onLast (withRelocation (relocationAt text (x .place) (x .len) (x .map))) (stageIn text o 1 p n .job .programs))
+          ≡ stageIn text (withSlot o x) 1 (relocAdded p) (n + 1) .job
+      job-reloc i q z l =
           let ps = take (o .«program_count») (o .programs) in
-          let f = withRelocation (record { offset = slotIn text x .offset; map = slotIn text x .map }) in
+          let f = withRelocation (relocationAt text (x .place) (x .len) (x .map)) in
           ap (with-programs text o)
           (on-last f (programsIn text (o .slots) ps) (programIn text (o .slots) p)
           ∙ ap (λ (y : List job.Program). y ++ (f (programIn text (o .slots) p) ∷ [])) (sym (programs-kept text (o .slots) (o .«reloc_count») x ps (w .kept .programs)))
-          ∙ ap (λ (y : job.Program). programsIn text (set (o .slots) (o .«reloc_count») x) ps ++ (y ∷ [])) (sym (program-reloc q z l)))
+          ∙ ap (λ (y : job.Program). programsIn text (set (o .slots) (o .«reloc_count») x) ps ++ (y ∷ [])) (sym (program-reloc i q z l)))
 
   -- the open program's numbers have room for a line more
   pub line-room : 0 < length (stageIn text o opened p n .job .programs) → p .lines < 65535
@@ -319,7 +325,7 @@ module _ (text : List ℕ) (o : BpfObject) (opened : ℕ) (p : Program) (n at en
       rw (e ∙ ap (λ (x : Added). builtWith x 1 (openedAt a b (end + 1) (o .«reloc_count»))) (closing text o opened p n at w .done)) (refl, k)
 
   pub declared-on : (d : Declaration) (r : Built) → r ≡ builtOf o opened p d (end + 1)
-      → takeBytes (stageIn text o opened p n) (lineBytes text at end) ≡ went (advance (declarationFrame text d) (stageIn text o opened p n))
+      → takeBytes (stageIn text o opened p n) (lineBytes text at end) ≡ added (stageIn text o opened p n) (declarationFrame text d)
       → Declared text (stageIn text o opened p n) d → (r .answer ≡ Done) × Walking text (r .object) (r .opened) (r .program) (n + 1) (end + 1)
   declared-on (License m) r e t k = built-license m r e (license-on text o opened p n at end w next m t (k .0) (k .1))
   declared-on (MapOf d m) r e t k =
@@ -348,3 +354,11 @@ pub ended : (text : List ℕ) (o : BpfObject) (opened : ℕ) (p : Program) (n at
     → accepted (jobIn text (closedObject o opened p)) ≡ takeLines empty (lines text)
 ended text o opened p n at w h =
     sym (w .whole ∙ ap (λ (l : List ℕ). takeLines (stageIn text o opened p n) (lines l)) (read-done text at h) ∙ ap accepted (sym (closing text o opened p n at w .job)))
+
+-- the answer at the text's end is the definition's
+pub finished : (text : List ℕ) (o : BpfObject) (opened : ℕ) (p : Program) (n at : ℕ) (r : Parsed) → Walking text o opened p n at → length text ≤ at
+    → r ≡ finishedOf o opened p n → (parsedIn text r ≡ takeLines empty (lines text)) × ParsedKept text r
+finished text o opened p n at r w h e =
+    let k = closing text o opened p n at w in
+    let z : r ≡ parsedAs Accepted (closedObject o opened p) = e ∙ ap (λ (x : Added). finishedWith x n) (k .done) in
+    rw z (ended text o opened p n at w h, k .kept)

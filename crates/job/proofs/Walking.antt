@@ -1,36 +1,32 @@
--- The walk over the lines: what holds before each line, and that it holds again behind a line of each kind.
-use mathlib.Core.Path.{_≡_, refl, sym, _∙_, ap, subst}
-use mathlib.Core.Bool.{Bool, true, false, cond}
-use mathlib.Core.Option.{Option, none, some}
-use mathlib.Core.List.{List, [], _∷_, _++_, append-assoc, append-nil}
-use Prim.Native.Nat.{ℕ, zero, suc, _+_, _-_, _*_, _≤_, _<_}
-use native.Mathlib.Nat.{add-zero}
+-- The walk over the lines: what holds before each line, and that it holds again after a line of each kind.
+use mathlib.Core.Path.{_≡_, refl, sym, _∙_, ap}
+use mathlib.Core.Bool.{Bool, true, false}
+use mathlib.Core.List.{List, [], _∷_, _++_}
+use Prim.Native.Nat.{ℕ, zero, suc, _+_, _-_, _≤_, _<_}
 use native.Mathlib.Numerals.{add-one}
 use native.Mathlib.Omega.{arith}
 use lib.Dec.{eqb}
-use lib.ListN.{length, take, drop, getD, set, replicate, length-append, length-set}
-use lib.Seq.{take-suc-set, getD-set-same, getD-set-other, length-take-le}
-use borrow.Author.Tests.{lt-ltb, eq-eqb, ne-eqb, eqb-true, eqb-false}
-use Rattle.lines.specs.Lines.{Line, lines, frameBytes}
+use lib.ListN.{length, take, drop, getD, set, length-append, length-set}
+use lib.Seq.{getD-set-same, getD-set-other, length-take-le}
+use borrow.Author.Tests.{eqb-true, eqb-false}
+use Rattle.lines.specs.Lines.{lines}
 use Rattle.lines.specs.Hex.{there}
-use Rattle.lines.proofs.Laws.{line}
-use Rattle.frames.specs.Frames.{Frame, frameOf, licence, mapDecl, program, code, relocation}
+use Rattle.frames.specs.Frames.{licence, code}
 use Rattle.ast.specs.Job.{Map, Job}
-use Rattle.ast.specs.Job as job
 use Rattle.ast.specs.declared.Name.{Name}
 use Rattle.ast.specs.declared.MapDecl.{MapDecl}
 use Rattle.object.specs.declared.Slot.{Slot}
 use Rattle.object.specs.declared.Program.{Program}
 use Rattle.object.specs.declared.BpfObject.{BpfObject}
-use Rattle.object.specs.Tables.{noProgram, emptySlot, emptyObject, Sound, withMap, withProgram, withLicense}
-use Rattle.object.specs.Read.{nameIn, mapIn, mapsIn, slotIn, relocationsIn, frameCode, lineCode, codeOf, body, programIn, programsIn, declaredMaps, jobIn}
-use Rattle.object.specs.Kept.{Named, ResolvedSlot, AllFrames, ProgramKept, AllKept, Kept}
+use Rattle.object.specs.Tables.{emptyObject, Sound, withMap, withLicense}
+use Rattle.object.specs.Read.{nameIn, mapIn, codeOf, body, programsIn, declaredMaps}
+use Rattle.object.specs.Kept.{Named, AllFrames, Kept}
 use Rattle.object.proofs.Read.{maps-set, count-maps}
-use Rattle.object.proofs.Programs.{take-next, drop-next, part-more, code-snoc, frames-snoc, relocations-snoc, programs-snoc, programs-length, programs-kept, kept-more, kept-snoc}
-use Rattle.refusals.specs.Checked.{Stage, takeBytes, takeLines, empty, went, advance, declare, counts, onLast, withCode, withRelocation}
-use Rattle.judge.specs.Judged.{Framed, lineBytes, mapFrameOf}
-use Rattle.job.specs.Walked.{Next, openedAt, codeAdded, relocAdded, openIn, stageIn}
-use Rattle.job.proofs.Lines.{line-bytes, goes-on}
+use Rattle.object.proofs.Programs.{programs-length}
+use Rattle.refusals.specs.Checked.{Stage, takeBytes, takeLines, empty, went, added}
+use Rattle.judge.specs.Judged.{lineBytes, mapFrameOf}
+use Rattle.job.specs.Walked.{Next, openIn, stageIn}
+use Rattle.job.proofs.Lines.{goes-on}
 
 -- what is known of the open program before the line at `at`
 pub record Opened (text : List ℕ) (o : BpfObject) (p : Program) (at : ℕ) : Type 0 where
@@ -108,17 +104,16 @@ programs-counted text o opened p n s h =
 -- ---- a line taken
 
 module _ (text : List ℕ) (o : BpfObject) (opened : ℕ) (p : Program) (n at end : ℕ) (w : Walking text o opened p n at) (next : Next text at end) where
-  -- the definition behind the line, where the tables then are `o′`, and the open program `p′`
-  pub taken : (f : Frame) (o′ : BpfObject) (opened′ : ℕ) (p′ : Program)
-      → takeBytes (stageIn text o opened p n) (lineBytes text at end) ≡ went (advance f (stageIn text o opened p n))
-      → declare f (stageIn text o opened p n .job) ≡ stageIn text o′ opened′ p′ (n + 1) .job
-      → o .«reloc_count» + counts f ≡ o′ .«reloc_count»
+  -- the definition after a line that leads to the job `j` with `r` relocations, if the tables then are `o′` and the open program is `p′`
+  pub taken : (r : ℕ) (j : Job) (o′ : BpfObject) (opened′ : ℕ) (p′ : Program)
+      → takeBytes (stageIn text o opened p n) (lineBytes text at end) ≡ went (record { lines = suc n; relocations = r; job = j })
+      → j ≡ stageIn text o′ opened′ p′ (n + 1) .job → r ≡ o′ .«reloc_count»
       → takeLines empty (lines text) ≡ takeLines (stageIn text o′ opened′ p′ (n + 1)) (lines (drop (end + 1) text))
-  taken f o′ opened′ p′ e j r =
-      w .whole ∙ goes-on text at end next (stageIn text o opened p n) (advance f (stageIn text o opened p n)) e
-      ∙ ap (λ (s : Stage). takeLines s (lines (drop (end + 1) text))) (same-stage (suc n) (n + 1) (o .«reloc_count» + counts f) (o′ .«reloc_count») _ _ (sym (add-one n)) r j)
+  taken r j o′ opened′ p′ e q i =
+      w .whole ∙ goes-on text at end next (stageIn text o opened p n) (record { lines = suc n; relocations = r; job = j }) e
+      ∙ ap (λ (s : Stage). takeLines s (lines (drop (end + 1) text))) (same-stage (suc n) (n + 1) r (o′ .«reloc_count») _ _ (sym (add-one n)) i q)
 
-  pub license-on : (m : Name) → takeBytes (stageIn text o opened p n) (lineBytes text at end) ≡ went (advance (licence (nameIn text m)) (stageIn text o opened p n))
+  pub license-on : (m : Name) → takeBytes (stageIn text o opened p n) (lineBytes text at end) ≡ added (stageIn text o opened p n) (licence (nameIn text m))
       → Named text m → n ≡ 0 → Walking text (withLicense o m .object) opened p (n + 1) (end + 1)
   license-on m e k z = go opened refl
     where
@@ -150,10 +145,10 @@ module _ (text : List ℕ) (o : BpfObject) (opened : ℕ) (p : Program) (n at en
             inside = omega (arith, next .inside);
             counted = omega (arith, w .counted, next .framed .first);
             early = omega (arith, w .early);
-            whole = taken (licence (nameIn text m)) (withLicense o m .object) opened p e refl (add-zero (o .«reloc_count»));
+            whole = taken _ _ (withLicense o m .object) opened p e refl refl;
           }
 
-  -- no program is there: none is open, and no slot is taken
+  -- if there is no program, none is open and no slot is taken
   none-open : length (stageIn text o opened p n .job .programs) ≡ 0 → (opened ≡ 0) × (o .«program_count» ≡ 0) × (o .«reloc_count» ≡ 0)
   none-open e = go opened refl
     where
@@ -164,7 +159,7 @@ module _ (text : List ℕ) (o : BpfObject) (opened : ℕ) (p : Program) (n at en
       go zero i = let h = rw i at (w .opening) in (i, h .0, h .1)
       go (suc q) i = absurd (omega (arith, c))
 
-  pub map-on : (d : MapDecl) (m : Name) → takeBytes (stageIn text o opened p n) (lineBytes text at end) ≡ went (advance (mapFrameOf d (nameIn text m)) (stageIn text o opened p n))
+  pub map-on : (d : MapDecl) (m : Name) → takeBytes (stageIn text o opened p n) (lineBytes text at end) ≡ added (stageIn text o opened p n) (mapFrameOf d (nameIn text m))
       → Named text m → length (declaredMaps text o) < 64 → length (stageIn text o opened p n .job .programs) ≡ 0
       → Walking text (withMap o d m) opened p (n + 1) (end + 1)
   map-on d m e k few z =
@@ -199,7 +194,7 @@ module _ (text : List ℕ) (o : BpfObject) (opened : ℕ) (p : Program) (n at en
         inside = omega (arith, next .inside);
         counted = omega (arith, w .counted, next .framed .first);
         early = omega (arith, w .early);
-        whole = taken (mapFrameOf d (nameIn text m)) (withMap o d m) opened p e (ap with-maps (sym (set-maps a b l))) (add-zero (o .«reloc_count»));
+        whole = taken _ _ (withMap o d m) opened p e (ap with-maps (sym (set-maps a b l))) refl;
       }
     where
       with-maps : List Map → Job

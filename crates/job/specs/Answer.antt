@@ -22,11 +22,11 @@ fitted room bytes = cond (leb (length bytes) room) (made bytes) (refused 8 0 (le
 abbrev pub answer : List ℕ → ℕ → Answer
 answer text room = elim (checked text) [ accepted j ↦ fitted room (object j) | faulty n l ↦ refused n l 0 ]
 
--- what stands in the lent output afterwards: the object and then the bytes that were there, or, refused, all bytes as they were
+-- what is in the lent output afterwards: the object and then the bytes that were there, or, if refused, all bytes as they were
 abbrev pub outputAfter : Answer → List ℕ → List ℕ
 outputAfter (made bytes) out = bytes ++ drop (length bytes) out
 outputAfter (refused number line needed) out = out
 
--- the answer that a refusal is
+-- a refusal as an answer
 abbrev pub refusalOf : Refusal → Answer
 refusalOf r = refused (numberOf r) (lineOf r) (neededOf r)

@@ -1,21 +1,20 @@
--- What the walk over the lines goes by: what a line says, and the tables and the open program read as a stage of the definition.
+-- What the walk over the lines is proved with: what a line says, and the tables and the open program as a stage of the definition.
 use mathlib.Core.Path.{_≡_}
 use mathlib.Core.Bool.{true, cond}
-use mathlib.Core.Option.{some}
 use mathlib.Core.List.{List, [], _∷_, _++_}
-use Prim.Native.Nat.{ℕ, zero, suc, _+_, _-_, _≤_, _<_}
+use Prim.Native.Nat.{ℕ, zero, suc, _+_, _-_, _<_}
 use lib.ListN.{length, take, drop, set}
 use lib.Dec.{eqb}
+use Rattle.octets.specs.Told.{Told, gives, refuses}
 use Rattle.lines.specs.Lines.{lines}
-use Rattle.frames.specs.Frames.{frameOf}
-use Rattle.frames.specs.Shown.{shown, Placed}
 use Rattle.ast.specs.declared.Name.{Name}
 use Rattle.object.specs.declared.Program.{Program}
 use Rattle.object.specs.declared.BpfObject.{BpfObject}
 use Rattle.object.specs.declared.Added.{Added}
 use Rattle.object.specs.Tables.{done, withLicense, addedMap, withProgram, addedProgram}
 use Rattle.refusals.specs.Checked.{Stage, takeLines, Checked, accepted, faulty}
-use Rattle.judge.specs.Judged.{Framed, lineBytes, Judged}
+use Rattle.judge.specs.Judged as judged
+use Rattle.judge.specs.Judged.{lineBytes, Ordered}
 use Rattle.judge.specs.declared.Counts.{Counts}
 use Rattle.judge.specs.declared.Verdict.{Verdict}
 use Rattle.judge.specs.declared.Verdict.the-variants as verdict
@@ -27,35 +26,41 @@ use Rattle.object.specs.declared.Slot.{Slot}
 use Rattle.object.specs.Read.{licenceIn, declaredMaps, programIn, programsIn, jobIn}
 use Rattle.object.specs.Kept.{Kept}
 use Rattle.refusals.specs.Refusal.{numberOf, lineOf}
-use Rattle.refusals.specs.declared.Refusal.{Refusal}
 use Rattle.judge.specs.declared.Declaration.{Declaration}
 use Rattle.judge.specs.declared.Declaration.the-variants as declaration
 use Rattle.job.specs.declared.Built.{Built}
 use Rattle.job.specs.declared.Parsing.{Parsing}
 use Rattle.job.specs.declared.Parsing.the-variants as parsing
 use Rattle.job.specs.declared.Parsed.{Parsed}
+use Rattle.job.specs.declared.LineAnswer.{LineAnswer}
+use Rattle.job.specs.declared.LineAnswer.the-variants.{Framed, NotLine}
 use Rattle.job.specs.declared.LineRead.{LineRead}
-use Rattle.job.specs.declared.LineRead.the-variants.{Is, NotLine}
 
 -- ---- lines
 
--- the line from `at` to `end` is the next one, and its LF stands at `end`
+-- the line from `at` to `end` is the next one, and its LF is at `end`
 pub record Next (text : List ℕ) (at end : ℕ) : Type 0 where
-  pub framed : Framed text at end
+  pub framed : judged.Framed text at end
   pub inside : end < length text
   pub is : lines (drop at text) ≡ record { text = take (end - at) (drop at text); ended = true } ∷ lines (drop (end + 1) text)
 
-abbrev pub LineSays : List ℕ → ℕ → LineRead → Type 0
-LineSays text at (Is frame end) =
-    Next text at end × (shown (lineBytes text at end) frame ≡ frameOf (lineBytes text at end)) × Placed (lineBytes text at end) frame
-LineSays text at NotLine = (s : Stage) → takeLines s (lines (drop at text)) ≡ faulty 2 (suc (s .lines))
+-- what reading a line says: where it ends, or refusal 2
+abbrev pub lineIs : ℕ → LineAnswer → Told ℕ
+lineIs end Framed = gives end
+lineIs end NotLine = refuses 2
 
--- what the definition does with the line at `at`: it stops there, or the line is one and is judged
+abbrev pub lineTold : LineRead → Told ℕ
+lineTold r = lineIs (r .end) (r .answer)
+
+-- the line at `at` is a frame's, or the definition refuses it
+abbrev pub LineSays : List ℕ → ℕ → Told ℕ → Type 0
+LineSays text at (gives end) = Next text at end
+LineSays text at (refuses n) = (s : Stage) → takeLines s (lines (drop at text)) ≡ faulty n (suc (s .lines))
+
+-- what the definition does with the line at `at`: it stops there, or the line is a frame's and is judged
 abbrev pub Saying : List ℕ → ℕ → Stage → Verdict → ℕ → Type 0
 Saying text at s (verdict.Refused r) end = takeLines s (lines (drop at text)) ≡ faulty (numberOf r) (lineOf r)
-Saying text at s (verdict.Declares d) end = Next text at end × Judged text s (lineBytes text at end) (verdict.Declares d)
-Saying text at s (verdict.Code n) end = Next text at end × Judged text s (lineBytes text at end) (verdict.Code n)
-Saying text at s (verdict.Reloc x) end = Next text at end × Judged text s (lineBytes text at end) (verdict.Reloc x)
+Saying text at s (verdict.Takes o) end = Next text at end × Ordered text s (lineBytes text at end) o
 
 abbrev pub countsOf : ℕ → ℕ → ℕ → ℕ → Counts
 countsOf lines maps programs relocs = record { lines = lines; maps = maps; programs = programs; relocs = relocs }
@@ -90,11 +95,11 @@ relocAdded p =
       relocs = p .relocs + 1;
     }
 
--- the object with the open program, where `opened` is not 0
+-- the object with the open program, if `opened` is not 0
 abbrev pub closedOf : BpfObject → ℕ → Program → Added
 closedOf o opened p = cond (eqb opened 0) (done o) (addedProgram o p)
 
--- the same object, where there is room
+-- the same object, if there is room
 abbrev pub closedObject : BpfObject → ℕ → Program → BpfObject
 closedObject o zero p = o
 closedObject o (suc k) p = withProgram o p
@@ -145,26 +150,28 @@ stageIn text o opened p n =
 
 -- ---- the answer
 
--- what a step leads to; a table that is full is refused, which the walk's counts rule out
+-- what a verdict means for the job: its refusal, or none so far
+abbrev pub soFar : Verdict → Parsing
+soFar (verdict.Takes o) = parsing.Accepted
+soFar (verdict.Refused r) = parsing.Refused r
+
+-- a table that is full is refused, which the walk's counts rule out
+abbrev pub fullAt : ℕ → Parsing
+fullAt count = parsing.Refused (refusal.OverLimit count)
+
+abbrev pub parsedAs : Parsing → BpfObject → Parsed
+parsedAs a o = record { answer = a; object = o }
+
 abbrev pub endedAs : Adding → ℕ → Parsing
 endedAs adding.Done count = parsing.Accepted
-endedAs adding.Full count = parsing.Refused (refusal.OverLimit count)
+endedAs adding.Full count = fullAt count
 
--- where the walk goes on: at `next`, or, refused, at the text's end
-abbrev pub onFrom : Parsing → ℕ → ℕ → ℕ
-onFrom parsing.Accepted next end = next
-onFrom (parsing.Refused r) next end = end
+-- the end of the text: closing the open program decides
+abbrev pub finishedWith : Added → ℕ → Parsed
+finishedWith a count = parsedAs (endedAs (a .answer) count) (a .object)
 
--- the answer at the end of the text: the refusal that ended the walk, or what closing the open program leads to
-abbrev pub lastAnswer : Parsing → Adding → ℕ → Parsing
-lastAnswer parsing.Accepted step count = endedAs step count
-lastAnswer (parsing.Refused r) step count = parsing.Refused r
-
-abbrev pub finishedWith : Added → ℕ → Parsing → Parsed
-finishedWith a count answer = record { answer = lastAnswer answer (a .answer) count; object = a .object }
-
-abbrev pub finishedOf : BpfObject → ℕ → Program → ℕ → Parsing → Parsed
-finishedOf o opened p count answer = finishedWith (closedOf o opened p) count answer
+abbrev pub finishedOf : BpfObject → ℕ → Program → ℕ → Parsed
+finishedOf o opened p count = finishedWith (closedOf o opened p) count
 
 -- the answer as the definition has it: the tables read as a job, or the refusal's number and line
 abbrev pub parsingIn : List ℕ → Parsing → BpfObject → Checked

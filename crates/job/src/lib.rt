@@ -1,18 +1,19 @@
-// Jobs: the walk over a text's lines, which fills the tables or gives the first refusal. Frames 04, 05 and 06 come by the thousand: they
-// change the tables in place, or the open program alone.
+// Jobs: a walk over the lines of a text, which fills the tables or stops at the first refusal. Frames 04, 05 and 06 come by the thousand,
+// so no table is copied for them: they change a slot in place, or the open program alone.
 ghost use mathlib.Core.Path.{_≡_};
 ghost use Prim.Native.Nat.{_+_, _≤_, _<_};
 ghost use lib.ListN.{length};
 ghost use Rattle.object.specs.Tables.{Sound};
 ghost use Rattle.refusals.specs.Checked.{Stage, takeLines, empty, checked};
 ghost use Rattle.lines.specs.Lines.{lines};
-ghost use Rattle.job.specs.Walked.{LineSays, openedAt, codeAdded, relocAdded, closedOf, builtOf, builtWith, endedAs, onFrom, lastAnswer, finishedOf, countsOf, Saying, parsedIn, ParsedKept};
+ghost use Rattle.job.specs.Walked.{LineSays, lineTold, openedAt, codeAdded, relocAdded, closedOf, builtOf, builtWith, soFar, fullAt, parsedAs, finishedOf, countsOf, Saying, parsedIn, ParsedKept};
 ghost use Rattle.lookup.specs.Names.{Names};
 ghost use Rattle.judge.specs.Judged.{Agrees, Held};
 use ast::Name;
-use frames::Frame;
+use frames::FrameRead;
 use judge::Counts;
 use judge::Declaration;
+use judge::Order;
 use judge::Verdict;
 use lines::LineEnd;
 use object::Added;
@@ -21,26 +22,42 @@ use object::BpfObject;
 use object::Program;
 use refusals::Refusal;
 
-// What a line says: a frame and where the line ends, or that it is no line of the format.
-enum LineRead {
-    Is { frame: Frame, end: usize },
+// Whether a line is one of the format: hexadecimal that an LF ends.
+enum LineAnswer {
+    Framed,
     NotLine,
+}
+
+// What was read of a line, and where it ends. For a line that is not of the format, `end` is where it begins.
+struct LineRead {
+    answer: LineAnswer,
+    end: usize,
 }
 
 // The line that starts at `at`.
 fn read_line(text: &[u8], at: usize) -> LineRead
     requires { ⌜ length (now text) ≤ 65535 ⌝ }
     requires { ⌜ at < length (now text) ⌝ }
-    ensures { λ r. ⌜ LineSays (now (text .entry)) at r ⌝ }
+    ensures { λ r. ⌜ LineSays (now (text .entry)) at (lineTold r) ⌝ }
+    ensures { λ r. ⌜ r .end < length (now (text .entry)) ⌝ }
 {
-    let LineEnd::Ended(end) = lines::line_end(text, at) else {
-        return LineRead::NotLine;
+    let ended = lines::line_end(text, at);
+    let LineEnd::Ended(end) = ended else {
+        return LineRead {
+            answer: LineAnswer::NotLine,
+            end: at,
+        };
     };
     if !lines::is_frame(&text[at..end]) {
-        return LineRead::NotLine;
+        return LineRead {
+            answer: LineAnswer::NotLine,
+            end: at,
+        };
     }
-    let frame = frames::read_frame(&text[at..end]);
-    LineRead::Is { frame, end }
+    LineRead {
+        answer: LineAnswer::Framed,
+        end,
+    }
 }
 
 // What the table does with the line that starts at `at`, and where the line ends.
@@ -58,12 +75,18 @@ fn say<'a>(text: &[u8], ats: &'a [u16], lens: &'a [u16], at: usize, counts: Coun
     ensures { λ r. ⌜ r .end < length (now (text .entry)) ⌝ }
     ensures { λ r. ⌜ ((s : Stage) → Agrees s counts → Held (now (text .entry)) (now (ats .entry)) (now (lens .entry)) s → Saying (now (text .entry)) at s (r .verdict) (r .end)) ⌝ }
 {
+    let line = counts.lines + 1;
     let read = read_line(text, at);
-    let LineRead::Is { frame, end } = read else {
-        return Said {
-            verdict: Verdict::Refused(Refusal::BadLine(counts.lines + 1)),
-            end: at,
-        };
+    let answer = read.answer;
+    let end = read.end;
+    let LineAnswer::Framed = answer else {
+        let verdict = Verdict::Refused(Refusal::BadLine(line));
+        return Said { verdict, end };
+    };
+    let shown = frames::read_frame(&text[at..end]);
+    let FrameRead::Is(frame) = shown else {
+        let verdict = Verdict::Refused(Refusal::BadFrame(line));
+        return Said { verdict, end };
     };
     let verdict = judge::judge_frame(text, ats, lens, at, end, frame, counts);
     Said { verdict, end }
@@ -119,7 +142,7 @@ fn add_reloc(mut p: Program) -> Program
     p
 }
 
-// The open program is added, where there is one.
+// Adds the open program, if there is one.
 fn close(object: BpfObject, opened: usize, program: Program) -> Added
     requires { ⌜ Sound object ⌝ }
     ensures { λ r. ⌜ r ≡ closedOf object opened program ⌝ }
@@ -141,7 +164,7 @@ struct Built {
     program: Program,
 }
 
-// What a declaration adds: a licence, a map, or a program, which closes the one that was open. The new one's body starts at `from`.
+// A declaration adds a licence or a map, or opens a program and closes the one that was open. The new one's body starts at `from`.
 fn build(
     object: BpfObject,
     opened: usize,
@@ -181,6 +204,7 @@ fn with_program(added: Added, opened: usize, program: Program) -> Built
     }
 }
 
+// Whether a job is accepted.
 pub enum Parsing {
     Accepted,
     Refused(Refusal),
@@ -192,28 +216,36 @@ pub struct Parsed {
     pub object: BpfObject,
 }
 
-// What a step leads to: the walk goes on, or a full table is refused.
-fn ended(answer: Adding, count: usize) -> Parsing
-    ensures { λ r. ⌜ r ≡ endedAs answer count ⌝ }
-{
-    let Adding::Done = answer else {
-        return Parsing::Refused(Refusal::OverLimit(count));
-    };
-    Parsing::Accepted
+impl Parsed {
+    // How many bytes a job may have.
+    pub const LONGEST: usize = 65535;
 }
 
-// Where the walk goes on: at `next`, or, refused, at the text's end, where no line is left.
-fn on_from(answer: Parsing, next: usize, end: usize) -> usize
-    ensures { λ r. ⌜ r ≡ onFrom answer next end ⌝ }
+// The refusal of line `count` for a full table, which the counts rule out.
+fn full(count: usize) -> Parsing
+    ensures { λ r. ⌜ r ≡ fullAt count ⌝ }
 {
-    let Parsing::Accepted = answer else {
-        return end;
-    };
-    next
+    Parsing::Refused(Refusal::OverLimit(count))
 }
 
-// The lines of a text one after the other, up to the first that is refused. A refusal ends the walk by going to the text's end: there is one
-// way out, since the tables are copied for each.
+// What a verdict means for the job: its refusal, or none so far.
+fn so_far(verdict: Verdict) -> Parsing
+    ensures { λ r. ⌜ r ≡ soFar verdict ⌝ }
+{
+    match verdict {
+        Verdict::Takes(_) => Parsing::Accepted,
+        Verdict::Refused(refusal) => Parsing::Refused(refusal),
+    }
+}
+
+// A job that is refused, with the tables as they are.
+fn refused(answer: Parsing, object: BpfObject) -> Parsed
+    ensures { λ r. ⌜ r ≡ parsedAs answer object ⌝ }
+{
+    Parsed { answer, object }
+}
+
+// Takes the lines of a text one after the other, up to the first that is refused.
 fn walk(text: &[u8]) -> Parsed
     requires { ⌜ length (now text) ≤ 65535 ⌝ }
     ensures { λ r. ⌜ parsedIn (now (text .entry)) r ≡ takeLines empty (lines (now (text .entry))) ⌝ }
@@ -224,68 +256,62 @@ fn walk(text: &[u8]) -> Parsed
     let mut opened = 0;
     let mut count = 0;
     let mut at = 0;
-    let mut answer = Parsing::Accepted;
     while at < text.len() {
         let programs = object.program_count + opened;
         let counts = counts_of(count, object.map_count, programs, object.reloc_count);
         let said = say(text, &object.map_at, &object.map_len, at, counts);
         let verdict = said.verdict;
+        let Verdict::Takes(order) = verdict else {
+            return refused(so_far(verdict), object);
+        };
         at = said.end + 1;
         count += 1;
-        match verdict {
-            Verdict::Declares(declaration) => {
+        match order {
+            Order::Declares(declaration) => {
                 let built = build(object, opened, program, declaration, at);
                 let step = built.answer;
-                answer = ended(step, count);
                 object = built.object;
                 program = built.program;
                 opened = built.opened;
-                at = on_from(answer, at, text.len());
+                let Adding::Done = step else {
+                    return refused(full(count), object);
+                };
             }
-            Verdict::Code(n) => {
+            Order::Code(n) => {
                 program = add_code(program, n);
             }
-            Verdict::Reloc(slot) => {
+            Order::Reloc(slot) => {
                 let n = object.reloc_count;
                 object.slots[n] = slot;
                 object.reloc_count = n + 1;
                 program = add_reloc(program);
             }
-            Verdict::Refused(refusal) => {
-                answer = Parsing::Refused(refusal);
-                at = text.len();
-            }
         }
     }
-    finish(object, opened, program, count, answer)
+    finish(object, opened, program, count)
 }
 
-// The answer at the end of the text: the refusal that ended the walk, or what closing the open program leads to.
-fn last_answer(answer: Parsing, step: Adding, count: usize) -> Parsing
-    ensures { λ r. ⌜ r ≡ lastAnswer answer step count ⌝ }
-{
-    let Parsing::Accepted = answer else {
-        return answer;
-    };
-    ended(step, count)
-}
-
-// The end of the text: the open program is added, and the job is accepted where no line was refused. There is one way out here too.
-fn finish(
-    object: BpfObject,
-    opened: usize,
-    program: Program,
-    count: usize,
-    answer: Parsing,
-) -> Parsed
+// The end of the text: the open program is added, and the job is accepted.
+fn finish(object: BpfObject, opened: usize, program: Program, count: usize) -> Parsed
     requires { ⌜ Sound object ⌝ }
-    ensures { λ r. ⌜ r ≡ finishedOf object opened program count answer ⌝ }
+    ensures { λ r. ⌜ r ≡ finishedOf object opened program count ⌝ }
 {
-    let closed = close(object, opened, program);
+    if opened == 0 {
+        return Parsed {
+            answer: Parsing::Accepted,
+            object,
+        };
+    }
+    let closed = object.add_program(program);
     let step = closed.answer;
     let object = closed.object;
-    let answer = last_answer(answer, step, count);
-    Parsed { answer, object }
+    let Adding::Done = step else {
+        return refused(full(count), object);
+    };
+    Parsed {
+        answer: Parsing::Accepted,
+        object,
+    }
 }
 
 // The job of a text, or the one refusal that the table gives.
@@ -293,9 +319,15 @@ pub fn parse(text: &[u8]) -> Parsed
     ensures { λ r. ⌜ parsedIn (now (text .entry)) r ≡ checked (now (text .entry)) ⌝ }
     ensures { λ r. ⌜ ParsedKept (now (text .entry)) r ⌝ }
 {
-    if 65535 < text.len() {
+    if Parsed::LONGEST < text.len() {
         return Parsed {
             answer: Parsing::Refused(Refusal::TooLong),
+            object: BpfObject::new(),
+        };
+    }
+    if text.len() == 0 {
+        return Parsed {
+            answer: Parsing::Accepted,
             object: BpfObject::new(),
         };
     }

@@ -21,7 +21,7 @@ pub record Piece (text : List ℕ) (from to : ℕ) (l : List ℕ) : Type 0 where
   pub bytes : bytesIn (take (2 * ((to - from) / 2)) (drop from text)) ≡ l
   pub count : length l ≡ (to - from) / 2
 
--- the same of the part of the text that the code lends
+-- the same for the part of the text that the code lends
 pub part-hex : {text l : List ℕ} {from to : ℕ} → Piece text from to l → isHex (take (to - from) (drop from text)) ≡ true
 part-hex {text} {l} {from} {to} p = rw (← p .even) (p .hex)
 

@@ -1,26 +1,27 @@
--- Refusal 7, exactly: a job is refused 7 at line `l` if and only if `l` is its first faulty line and that line asks for a map that
--- nobody declared before it. The way there is for every number: a job is refused `n` at `l` exactly when the lines before `l` are taken
--- and line `l` is refused `n`.
+-- Refusal 7, exactly: a job is refused 7 at line `l` if and only if `l` is its first faulty line and that line asks for a map that nobody
+-- declared before it. It follows from a law for every number: a job is refused `n` at `l` exactly when the lines before `l` are taken and
+-- line `l` is refused `n`.
 use mathlib.Core.Path.{_≡_, refl, sym, _∙_, ap}
-use mathlib.Core.Bool.{Bool, true, false, cond}
+use mathlib.Core.Bool.{Bool, true, false, cond, _||_}
 use mathlib.Core.Option.{Option, none, some}
 use mathlib.Core.List.{List, [], _∷_, _++_}
 use Prim.Native.Nat.{ℕ, suc, _+_}
 use native.Mathlib.Omega.{arith}
 use lib.ListN.{length}
 use lib.Dec.{ltb, leb, eqb}
-use borrow.Author.Tests.{ltb-false, le-ltb, leb-false, lt-leb, eqb-true, eqb-false, ne-eqb, not-true, not-false}
+use borrow.Author.Tests.{ltb-false, le-ltb, leb-false, lt-leb, eqb-true, eqb-false, ne-eqb, not-false}
 use Rattle.octets.specs.Octets.{equal, ascii}
 use Rattle.octets.proofs.Laws.{equal-self}
-use Rattle.octets.proofs.Lists.{All}
+use Rattle.octets.specs.All.{All}
 use Rattle.octets.proofs.Tests.{or-false-both, and-true-both}
 use Rattle.utf8.specs.Utf8.{isText}
 use Rattle.ast.specs.Job.{Map, lastFrom, lastMap}
 use Rattle.lines.specs.Lines.{Line, lines, frameBytes}
 use Rattle.frames.specs.Frames.{Frame, licence, mapDecl, program, code, relocation, frameOf}
-use Rattle.refusals.specs.Checked.{Stage, empty, Reason, reason, first, long, declares, reasons, advance, Step, went, stopped, takeFrame, takeBytes, takeLine, Checked, faulty, takeLines, checked}
+use Rattle.refusals.specs.Checked.{Stage, empty, Reason, first, long, badName, reasons, Step, went, stopped, resolved, added, takeFrame, takeBytes, takeLine, Checked, faulty, takeLines, checked}
 use Rattle.judge.specs.Unknown.{stageAfter, Unnamed, Asks, Unknown}
-use Rattle.judge.proofs.Judge.{stops, declared-none}
+use Rattle.refusals.proofs.Within.{none-holds}
+use Rattle.judge.proofs.Judge.{goes, missing, at-none}
 
 -- ---- no map of a name
 
@@ -34,7 +35,7 @@ equal-same (x ∷ a) (y ∷ b) e =
     let t = equal-same a b q in
     cc
 
--- the test for equal names is false exactly where the names differ
+-- the test for equal names is false exactly when the names differ
 pub equal-differ : (a b : List ℕ) → equal a b ≡ false → a ≡ b → ⊥
 equal-differ a b e q = let s = equal-self b in let t : _≡_ {A = ℕ} 0 1 = cc in omega arith
 
@@ -45,7 +46,7 @@ differ-equal a b h = go (equal a b) refl
     go true e = absurd (h (equal-same a b e))
     go false e = refl
 
--- the lookup finds nothing exactly where no map has the name
+-- the lookup finds nothing exactly when no map has the name
 from-none : (i : ℕ) (name : List ℕ) (ms : List Map) → lastFrom i name ms ≡ none → Unnamed name ms
 from-none i name [] e = tt
 from-none i name (m ∷ ms) e = go (lastFrom (suc i) name ms) refl (equal name (m .name)) refl (from-none (suc i) name ms)
@@ -74,67 +75,65 @@ unnamed-none name ms h = none-from 0 name ms h
 
 -- ---- a frame is refused 7 for one reason
 
--- where the first reason has another number, it does not hold, and the others decide, which give `o`
-past : (n m : ℕ) (b : Bool) (o : Option ℕ) → (m ≡ n → ⊥) → cond b (some m) o ≡ some n → (b ≡ false) × (o ≡ some n)
-past n m true o d e = absurd (d (cc))
-past n m false o d e = (refl, e)
-
 -- a number that no reason has is not given
 never : (n : ℕ) (rs : List Reason) → All (λ (r : Reason). r .number ≡ n → ⊥) rs → first rs ≡ some n → ⊥
 never n [] d e = let z : _≡_ {A = ℕ} 0 1 = cc in omega arith
-never n (r ∷ rs) d e = never n rs (d .1) (past n (r .number) (r .holds) (first rs) (d .0) e .1)
-
--- the last reason, which has the number
-last-holds : (n : ℕ) (b : Bool) → first (reason n b ∷ []) ≡ some n → b ≡ true
-last-holds n true e = refl
-last-holds n false e = cc
-
-missing : (name : List ℕ) (ms : List Map) → declares ms name ≡ false → lastMap name ms ≡ none
-missing name ms e = go (lastMap name ms) refl
+never n (r ∷ rs) d e = go (r .holds) e (never n rs (d .1))
   where
-    go : (o : Option ℕ) → lastMap name ms ≡ o → o ≡ none
-    go none q = refl
-    go (some k) q = let x : _≡_ {A = Bool} true false = rw (q, declares) at e in cc
+    go : (b : Bool) → cond b (some (r .number)) (first rs) ≡ some n → (first rs ≡ some n → ⊥) → ⊥
+    go true q h = d .0 (cc)
+    go false q h = h q
+
+-- no frame has a reason 7 in the list: the lookup of the map gives it
+no-seven : (s : Stage) (f : Frame) → first (reasons s f) ≡ some 7 → ⊥
+no-seven s (licence t) = never 7 (reasons s (licence t)) (λ z. omega arith, (λ z. omega arith, (λ z. omega arith, tt)))
+no-seven s (mapDecl kind key val entries name) = never 7 (reasons s (mapDecl kind key val entries name)) (λ z. omega arith, (λ z. omega arith, (λ z. omega arith, tt)))
+no-seven s (program section symbol) = never 7 (reasons s (program section symbol)) (λ z. omega arith, (λ z. omega arith, tt))
+no-seven s (code c) = never 7 (reasons s (code c)) (λ z. omega arith, tt)
+no-seven s (relocation offset name) = never 7 (reasons s (relocation offset name)) (λ z. omega arith, (λ z. omega arith, (λ z. omega arith, tt)))
+
+goes-on : (t : Stage) → went t ≡ stopped 7 → ⊥
+goes-on t e = let z : _≡_ {A = ℕ} 0 1 = cc in omega arith
 
 module _ (s : Stage) (line : Line) (bytes : List ℕ) (hex : frameBytes line ≡ some bytes) where
-  frame-asks : (f : Frame) → frameOf bytes ≡ some f → first (reasons s f) ≡ some 7 → Asks s line
-  frame-asks (licence t) e q = absurd (never 7 (reasons s (licence t)) (λ z. omega arith, (λ z. omega arith, (λ z. omega arith, tt))) q)
-  frame-asks (mapDecl kind key val entries name) e q =
-      absurd (never 7 (reasons s (mapDecl kind key val entries name)) (λ z. omega arith, (λ z. omega arith, (λ z. omega arith, tt))) q)
-  frame-asks (program section symbol) e q = absurd (never 7 (reasons s (program section symbol)) (λ z. omega arith, (λ z. omega arith, tt)) q)
-  frame-asks (code c) e q = absurd (never 7 (reasons s (code c)) (λ z. omega arith, tt) q)
-  frame-asks (relocation offset name) e q =
-      let (a, q₁) = past 7 4 _ _ (λ z. omega arith) q in
-      let (b, q₂) = past 7 5 _ _ (λ z. omega arith) q₁ in
-      let (c, q₃) = past 7 6 _ _ (λ z. omega arith) q₂ in
-      let (full, tooLong) = or-false-both (leb 256 (s .relocations)) (long name) c in
-      let none-open = eqb-false (length (s .job .programs)) 0 a in
-      record {
-        bytes = bytes;
-        hex = hex;
-        offset = offset;
-        name = name;
-        frame = e;
-        placed = omega arith;
-        good = not-false (isText name) b;
-        room = leb-false 256 (s .relocations) full;
-        short = ltb-false 64 (length name) tooLong;
-        undeclared = missing name (s .job .maps) (not-true (declares (s .job .maps) name) (last-holds 7 _ q₃));
-      }
+  -- a frame that no reason refuses, and that stops all the same
+  frame-asks : (f : Frame) → frameOf bytes ≡ some f → first (reasons s f) ≡ none → added s f ≡ stopped 7 → Asks s line
+  frame-asks (licence t) e q a = absurd (goes-on _ a)
+  frame-asks (mapDecl kind key val entries name) e q a = absurd (goes-on _ a)
+  frame-asks (program section symbol) e q a = absurd (goes-on _ a)
+  frame-asks (code c) e q a = absurd (goes-on _ a)
+  frame-asks (relocation offset name) e q a = go (lastMap name (s .job .maps)) refl
+    where
+      go : (o : Option ℕ) → lastMap name (s .job .maps) ≡ o → Asks s line
+      go (some k) l = absurd (goes-on _ (rw l at a))
+      go none l =
+          let h = none-holds (reasons s (relocation offset name)) q in
+          let (full, tooLong) = or-false-both (leb 256 (s .relocations)) (long name) (h .1 .1 .0) in
+          let none-open = eqb-false (length (s .job .programs)) 0 (h .0) in
+          record {
+            bytes = bytes;
+            hex = hex;
+            offset = offset;
+            name = name;
+            frame = e;
+            placed = omega arith;
+            good = not-false (isText name) (h .1 .0);
+            room = leb-false 256 (s .relocations) full;
+            short = ltb-false 64 (length name) tooLong;
+            undeclared = none-unnamed name (s .job .maps) l;
+          }
 
--- ---- a line is refused 7 exactly where it asks for an undeclared map
+-- ---- a line is refused 7 exactly if it asks for an undeclared map
 
 bytes-ask : (s : Stage) (line : Line) (bytes : List ℕ) → frameBytes line ≡ some bytes → takeBytes s bytes ≡ stopped 7 → Asks s line
 bytes-ask s line bytes hex e = go (frameOf bytes) refl
   where
     by-frame : (f : Frame) → frameOf bytes ≡ some f → (o : Option ℕ) → first (reasons s f) ≡ o → Asks s line
-    by-frame f p none q =
-        let x : _≡_ {A = Step} (went (advance f s)) (stopped 7) = rw (q, takeFrame) at (rw (p, takeBytes) at e) in
-        let z : _≡_ {A = ℕ} 0 1 = cc in
-        absurd (omega arith)
+    by-frame f p none q = frame-asks s line bytes hex f p q (rw (q, takeFrame) at (rw (p, takeBytes) at e))
     by-frame f p (some n) q =
         let x : _≡_ {A = Step} (stopped n) (stopped 7) = rw (q, takeFrame) at (rw (p, takeBytes) at e) in
-        frame-asks s line bytes hex f p (cc)
+        let y : n ≡ 7 = cc in
+        absurd (no-seven s f (q ∙ ap some y))
 
     go : (o : Option Frame) → frameOf bytes ≡ o → Asks s line
     go none p =
@@ -154,17 +153,15 @@ line-asks s line e = go (frameBytes line) refl
     go (some bytes) p = bytes-ask s line bytes p (rw (p, takeLine) at e)
 
 pub asks-line : (s : Stage) (line : Line) → Asks s line → takeLine s line ≡ stopped 7
-asks-line s line a = rw (a .hex, takeLine) (stops s (relocation (a .offset) (a .name)) (a .bytes) 7 (a .frame) seven)
-  where
-    seven : first (reasons s (relocation (a .offset) (a .name))) ≡ some 7
-    seven =
-        simp (
-          ne-eqb (length (s .job .programs)) 0 (λ z. omega (arith, a .placed)),
-          a .good,
-          lt-leb 256 (s .relocations) (a .room),
-          le-ltb 64 (length (a .name)) (a .short),
-        )
-        (declared-none s (a .offset) (a .name) (a .undeclared))
+asks-line s line a =
+    let name = a .name in
+    rw (a .hex, takeLine)
+    (goes s (relocation (a .offset) name) (a .bytes) (a .frame)
+    (at-none (eqb (length (s .job .programs)) 0) (badName name) (leb 256 (s .relocations) || long name)
+    (ne-eqb (length (s .job .programs)) 0 (λ z. omega (arith, a .placed)))
+    (rw (a .good))
+    (rw (lt-leb 256 (s .relocations) (a .room), le-ltb 64 (length name) (a .short))))
+    ∙ missing s (a .offset) name (unnamed-none name (s .job .maps) (a .undeclared)))
 
 -- ---- the first faulty line, whatever it is refused for
 
@@ -176,8 +173,19 @@ Counted s (stopped n) = Unit {0}
 line-counted : (s : Stage) (line : Line) → Counted s (takeLine s line)
 line-counted s line = by-line (frameBytes line)
   where
-    by-reasons : (f : Frame) (o : Option ℕ) → Counted s (elim o [ some n ↦ stopped n | none ↦ went (advance f s) ])
-    by-reasons f none = refl
+    by-map : (offset : ℕ) (name : List ℕ) (o : Option ℕ) → Counted s (resolved s offset name o)
+    by-map offset name none = tt
+    by-map offset name (some k) = refl
+
+    by-kind : (f : Frame) → Counted s (added s f)
+    by-kind (licence t) = refl
+    by-kind (mapDecl kind key val entries name) = refl
+    by-kind (program section symbol) = refl
+    by-kind (code c) = refl
+    by-kind (relocation offset name) = by-map offset name (lastMap name (s .job .maps))
+
+    by-reasons : (f : Frame) (o : Option ℕ) → Counted s (elim o [ some n ↦ stopped n | none ↦ added s f ])
+    by-reasons f none = by-kind f
     by-reasons f (some n) = tt
 
     by-frame : (o : Option Frame) → Counted s (elim o [ none ↦ stopped 3 | some f ↦ takeFrame s f ])
@@ -188,7 +196,7 @@ line-counted s line = by-line (frameBytes line)
     by-line none = tt
     by-line (some bytes) = by-frame (frameOf bytes)
 
--- the lines `ls` behind stage `s` are taken up to one, which has the number `l` and is refused `n`
+-- after stage `s` the lines `ls` are taken up to one, which has the number `l` and is refused `n`
 record Stops (s : Stage) (ls : List Line) (n l : ℕ) : Type 0 where
   before : List Line
   line : Line
@@ -280,7 +288,7 @@ unknown-refused text l u =
     rw (le-ltb 65535 (length text) (u .few), u .split)
     (stop-lines empty (u .before) (u .line) (u .behind) (u .stage) 7 (u .taken) (asks-line (u .stage) (u .line) (u .asks)) ∙ ap (faulty 7) n)
 
--- A job of two lines, a program `x` and a relocation against `m`, is refused so at its second line.
+-- A job of two lines, a program `x` and a relocation to `m`, is refused 7 at its second line.
 abbrev two-lines : List ℕ
 two-lines = ascii "03017879" ++ (10 ∷ ascii "0500000000000000006d") ++ (10 ∷ [])
 

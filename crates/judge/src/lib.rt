@@ -1,5 +1,5 @@
-// The table of refusals for one frame: what a frame asks for, or why it is refused where it stands. Only numbers and places go in and
-// out, so that no table is copied for a frame.
+// The table of refusals for one frame: what the frame asks for, or why it is refused. Only numbers and places go in and out, so that no
+// table is copied for a frame.
 ghost use mathlib.Core.Path.{_≡_};
 ghost use mathlib.Core.Option.{some};
 ghost use mathlib.Core.List.{List};
@@ -9,12 +9,15 @@ ghost use Rattle.frames.specs.Shown.{shown, Placed};
 ghost use Rattle.lookup.specs.Names.{Names};
 ghost use Rattle.frames.specs.Frames.{licence, code, frameOf};
 ghost use Rattle.refusals.specs.Checked.{Stage};
-ghost use Rattle.judge.specs.Judged.{nameAt, Framed, lineBytes, Says, Judged, Agrees, Held, mapFrameOf, programFrameOf, relocationFrameOf};
+ghost use Rattle.judge.specs.Judged.{nameAt, Framed, lineBytes, Says, Judged, Agrees, Held, mapFrameOf, programFrameOf, relocationFrameOf, slotAt};
 use ast::MapDecl;
 use ast::Name;
-use flaws::Fault;
+use flaws::Flaw;
+use flaws::Limit;
 use frames::Frame;
+use insn::Insn;
 use lookup::Found;
+use object::BpfObject;
 use object::Entry;
 use object::Slot;
 use refusals::Refusal;
@@ -34,11 +37,16 @@ pub enum Declaration {
     Program { section: Name, symbol: Name },
 }
 
-// What a frame asks for, or why it is refused.
-pub enum Verdict {
+// What a frame asks for.
+pub enum Order {
     Declares(Declaration),
     Code(usize),
     Reloc(Slot),
+}
+
+// What the table does with a frame.
+pub enum Verdict {
+    Takes(Order),
     Refused(Refusal),
 }
 
@@ -67,11 +75,16 @@ fn judge_license(text: &[u8], at: usize, end: usize, lines: usize) -> Verdict
         return Verdict::Refused(Refusal::Misplaced(line));
     }
     let from = at + 2;
-    let fault = flaws::fault_of(flaws::string_flaw(&text[from..end]), false, line);
-    match fault {
-        Fault::Is(r) => Verdict::Refused(r),
-        Fault::Nothing => Verdict::Declares(Declaration::License(name_at(from, end))),
-    }
+    let flaw = flaws::string_flaw(&text[from..end]);
+    let Flaw::Good = flaw else {
+        return Verdict::Refused(Refusal::BadText(line));
+    };
+    let limit = flaws::name_limit(&text[from..end], false);
+    let Limit::Kept = limit else {
+        return Verdict::Refused(Refusal::OverLimit(line));
+    };
+    let name = name_at(from, end);
+    Verdict::Takes(Order::Declares(Declaration::License(name)))
 }
 
 // A map's declaration: maps precede programs.
@@ -94,17 +107,19 @@ fn judge_map(
         return Verdict::Refused(Refusal::Misplaced(line));
     }
     let from = at + 2 * name;
-    let fault = flaws::fault_of(flaws::name_flaw(&text[from..end]), 64 <= counts.maps, line);
-    match fault {
-        Fault::Is(r) => Verdict::Refused(r),
-        Fault::Nothing => {
-            let name = name_at(from, end);
-            Verdict::Declares(Declaration::Map { decl, name })
-        }
-    }
+    let flaw = flaws::name_flaw(&text[from..end]);
+    let Flaw::Good = flaw else {
+        return Verdict::Refused(Refusal::BadText(line));
+    };
+    let limit = flaws::name_limit(&text[from..end], BpfObject::MAPS <= counts.maps);
+    let Limit::Kept = limit else {
+        return Verdict::Refused(Refusal::OverLimit(line));
+    };
+    let name = name_at(from, end);
+    Verdict::Takes(Order::Declares(Declaration::Map { decl, name }))
 }
 
-// A program: the section name stands before `symbol`, the symbol's name from there on.
+// A program: the section name is before `symbol`, the symbol's name from there on.
 fn judge_program(text: &[u8], at: usize, end: usize, symbol: usize, counts: Counts) -> Verdict
     requires { ⌜ Framed (now text) at end ⌝ }
     requires { ⌜ counts .lines < 65536 ⌝ }
@@ -116,15 +131,17 @@ fn judge_program(text: &[u8], at: usize, end: usize, symbol: usize, counts: Coun
     let from = at + 4;
     let middle = at + 2 * symbol;
     let flaw = flaws::program_flaw(&text[from..middle], &text[middle..end]);
-    let fault = flaws::fault_of(flaw, 32 <= counts.programs, line);
-    match fault {
-        Fault::Is(r) => Verdict::Refused(r),
-        Fault::Nothing => {
-            let section = name_at(from, middle);
-            let symbol = name_at(middle, end);
-            Verdict::Declares(Declaration::Program { section, symbol })
-        }
-    }
+    let Flaw::Good = flaw else {
+        return Verdict::Refused(Refusal::BadText(line));
+    };
+    let full = BpfObject::PROGRAMS <= counts.programs;
+    let limit = flaws::program_limit(&text[from..middle], &text[middle..end], full);
+    let Limit::Kept = limit else {
+        return Verdict::Refused(Refusal::OverLimit(line));
+    };
+    let section = name_at(from, middle);
+    let symbol = name_at(middle, end);
+    Verdict::Takes(Order::Declares(Declaration::Program { section, symbol }))
 }
 
 // Code of `n` bytes: it belongs to the open program.
@@ -135,7 +152,23 @@ fn judge_code(n: usize, counts: Counts) -> Verdict
     if counts.programs == 0 {
         return Verdict::Refused(Refusal::Misplaced(counts.lines + 1));
     }
-    Verdict::Code(n)
+    Verdict::Takes(Order::Code(n))
+}
+
+// The slot of a relocation whose line is from `at` to `end`, for map number `map`.
+fn slot_at(at: usize, end: usize, map: usize) -> Slot
+    requires { ⌜ at + 18 ≤ end ⌝ }
+    requires { ⌜ end ≤ 65535 ⌝ }
+    requires { ⌜ end ≤ at + 18 + 128 ⌝ }
+    requires { ⌜ map < 64 ⌝ }
+    ensures { λ r. ⌜ r ≡ slotAt at end map ⌝ }
+{
+    Slot {
+        entry: Entry::Taken,
+        place: (at + 2) as u16,
+        len: ((end - (at + 18)) / 2) as u16,
+        map: map as u8,
+    }
 }
 
 // A relocation: it belongs to the open program, and its map is declared.
@@ -156,25 +189,23 @@ fn judge_relocation<'a>(
     ensures { λ r. ⌜ ((s : Stage) → Agrees s counts → Held (now (text .entry)) (now (ats .entry)) (now (lens .entry)) s → Judged (now (text .entry)) s (lineBytes (now (text .entry)) at end) r) ⌝ }
 {
     let line = counts.lines + 1;
-    let maps = counts.maps;
     if counts.programs == 0 {
         return Verdict::Refused(Refusal::Misplaced(line));
     }
     let from = at + 18;
     let flaw = flaws::name_flaw(&text[from..end]);
-    let fault = flaws::fault_of(flaw, 256 <= counts.relocs, line);
-    match fault {
-        Fault::Is(r) => Verdict::Refused(r),
-        Fault::Nothing => match lookup::find_map(text, ats, lens, maps, &text[from..end]) {
-            Found::At(map) => Verdict::Reloc(Slot {
-                entry: Entry::Taken,
-                place: (at + 2) as u16,
-                len: ((end - from) / 2) as u16,
-                map: map as u8,
-            }),
-            Found::Nothing => Verdict::Refused(Refusal::UnknownMap(line)),
-        },
-    }
+    let Flaw::Good = flaw else {
+        return Verdict::Refused(Refusal::BadText(line));
+    };
+    let limit = flaws::name_limit(&text[from..end], BpfObject::RELOCATIONS <= counts.relocs);
+    let Limit::Kept = limit else {
+        return Verdict::Refused(Refusal::OverLimit(line));
+    };
+    let found = lookup::find_map(text, ats, lens, counts.maps, &text[from..end]);
+    let Found::At(map) = found else {
+        return Verdict::Refused(Refusal::UnknownMap(line));
+    };
+    Verdict::Takes(Order::Reloc(slot_at(at, end, map)))
 }
 
 // What the table does with a line's frame.
@@ -191,7 +222,7 @@ pub fn judge_frame<'a>(
     requires { ⌜ counts .lines < 65536 ⌝ }
     requires { ⌜ counts .maps ≤ 64 ⌝ }
     requires { ⌜ Names (now text) (now ats) (now lens) (counts .maps) ⌝ }
-    requires { ⌜ shown (lineBytes (now text) at end) frame ≡ frameOf (lineBytes (now text) at end) ⌝ }
+    requires { ⌜ Says (now text) at end (shown (lineBytes (now text) at end) frame) ⌝ }
     requires { ⌜ Placed (lineBytes (now text) at end) frame ⌝ }
     ensures { λ r. ⌜ ((s : Stage) → Agrees s counts → Held (now (text .entry)) (now (ats .entry)) (now (lens .entry)) s → Judged (now (text .entry)) s (lineBytes (now (text .entry)) at end) r) ⌝ }
 {
@@ -201,7 +232,6 @@ pub fn judge_frame<'a>(
         Frame::Program { symbol } => judge_program(text, at, end, symbol, counts),
         Frame::Code => judge_code((end - at) / 2 - 1, counts),
         Frame::Relocation => judge_relocation(text, ats, lens, at, end, counts),
-        Frame::Instruction => judge_code(8, counts),
-        Frame::Bad => Verdict::Refused(Refusal::BadFrame(counts.lines + 1)),
+        Frame::Instruction => judge_code(Insn::SIZE, counts),
     }
 }

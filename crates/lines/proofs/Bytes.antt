@@ -58,7 +58,7 @@ bytes-length (c ∷ d ∷ cs) t =
     let l = bytes-length cs (f .rest) in
     rw (f .bytes) (omega arith)
 
--- the bytes from byte `i` on stand from character 2 i on
+-- the bytes from byte `i` on begin at character 2 i
 pub hex-drop : (s : List ℕ) (i : ℕ) → isHex s ≡ true → isHex (drop (2 * i) s) ≡ true
 hex-drop s zero t = t
 hex-drop [] (suc i) t = rw (doubled i)

@@ -15,7 +15,7 @@ use borrow.Author.Tests.{eq-eqb, ne-eqb, eqb-false, leb-true}
 use Rattle.lines.specs.Lines.{Line, lines, before, digit, pair, unhex}
 use Rattle.octets.proofs.Laws.{read-on, read-done}
 use Rattle.octets.proofs.Tests.{and-true-both}
-use Rattle.lines.specs.declared.LineEnd.the-variants.{Ended, Cut}
+use Rattle.octets.specs.Told.{gives, refuses}
 use Rattle.lines.specs.Ends.{endOf, lineEnd}
 use Rattle.lines.specs.Hex.{there, bytesOf, isHex, isFrame}
 
@@ -25,15 +25,15 @@ pub before-end : (i c : ℕ) (ls : List Line) → endOf i (before c ls) ≡ endO
 before-end i c [] = refl
 before-end i c (l ∷ ls) =
     let e : i + suc (length (l .text)) ≡ i + 1 + length (l .text) = omega arith in
-    ap (λ (n : ℕ). cond (l .ended) (Ended n) Cut) e
+    ap (λ (n : ℕ). cond (l .ended) (gives n) (refuses 2)) e
 
 pub end-on : (s : List ℕ) (i : ℕ) → i < length s → (getD s i 0 ≡ 10 → ⊥) → lineEnd s i ≡ lineEnd s (i + 1)
 end-on s i h n = rw (read-on s i h) (simp (ne-eqb _ _ n) (before-end i (getD s i 0) (lines (drop (i + 1) s))))
 
-pub end-here : (s : List ℕ) (i : ℕ) → i < length s → getD s i 0 ≡ 10 → lineEnd s i ≡ Ended i
+pub end-here : (s : List ℕ) (i : ℕ) → i < length s → getD s i 0 ≡ 10 → lineEnd s i ≡ gives i
 end-here s i h e = rw (read-on s i h) (simp (eq-eqb _ _ e, add-zero))
 
-pub end-none : (s : List ℕ) (i : ℕ) → length s ≤ i → lineEnd s i ≡ Cut
+pub end-none : (s : List ℕ) (i : ℕ) → length s ≤ i → lineEnd s i ≡ refuses 2
 end-none s i h = rw (read-done s i h)
 
 -- ---- hexadecimal
@@ -70,19 +70,19 @@ hex-on s i h =
 abbrev pub line : List ℕ → Line
 line text = record { text = text; ended = true }
 
-not-ended : (e : ℕ) → Cut ≡ Ended e → ⊥
+not-ended : (e : ℕ) → refuses 2 ≡ gives e → ⊥
 not-ended e h = let z : _≡_ {A = ℕ} 0 1 = cc in omega arith
 
-same-end : (a e : ℕ) → Ended a ≡ Ended e → a ≡ e
+same-end : (a e : ℕ) → gives a ≡ gives e → a ≡ e
 same-end a e h = cc
 
-split : (bs : List ℕ) (at e : ℕ) → endOf at (lines bs) ≡ Ended e
+split : (bs : List ℕ) (at e : ℕ) → endOf at (lines bs) ≡ gives e
     → (at ≤ e) × (e - at < length bs) × (lines bs ≡ line (take (e - at) bs) ∷ lines (drop (e + 1 - at) bs))
 split [] at e h = absurd (not-ended e h)
 split (c ∷ cs) at e h = go (eqb c 10) refl (split cs (at + 1) e)
   where
     go : (b : Bool) → eqb c 10 ≡ b
-        → (endOf (at + 1) (lines cs) ≡ Ended e → (at + 1 ≤ e) × (e - (at + 1) < length cs) × (lines cs ≡ line (take (e - (at + 1)) cs) ∷ lines (drop (e + 1 - (at + 1)) cs)))
+        → (endOf (at + 1) (lines cs) ≡ gives e → (at + 1 ≤ e) × (e - (at + 1) < length cs) × (lines cs ≡ line (take (e - (at + 1)) cs) ∷ lines (drop (e + 1 - (at + 1)) cs)))
         → (at ≤ e) × (e - at < length (c ∷ cs)) × (lines (c ∷ cs) ≡ line (take (e - at) (c ∷ cs)) ∷ lines (drop (e + 1 - at) (c ∷ cs)))
     go true t ih =
         let k : at + 0 ≡ e = same-end (at + 0) e (simp t at h) in
@@ -90,7 +90,7 @@ split (c ∷ cs) at e h = go (eqb c 10) refl (split cs (at + 1) e)
         let y : e + 1 - at ≡ 1 = omega arith in
         (omega arith, omega arith, rw (z, y) (simp t))
     go false t ih =
-        let h′ : endOf at (before c (lines cs)) ≡ Ended e = simp t at h in
+        let h′ : endOf at (before c (lines cs)) ≡ gives e = simp t at h in
         let r = ih (sym (before-end at c (lines cs)) ∙ h′) in
         let p : at + 1 ≤ e = r .0 in
         let q : e - (at + 1) < length cs = r .1 in
@@ -98,7 +98,7 @@ split (c ∷ cs) at e h = go (eqb c 10) refl (split cs (at + 1) e)
         let y : e + 1 - at ≡ suc (e + 1 - (at + 1)) = omega arith in
         (omega arith, omega arith, rw (z, y) (simp t (ap (before c) (r .2))))
 
-pub line-ended : (s : List ℕ) (at e : ℕ) → lineEnd s at ≡ Ended e
+pub line-ended : (s : List ℕ) (at e : ℕ) → lineEnd s at ≡ gives e
     → (at ≤ e) × (e < length s) × (lines (drop at s) ≡ line (take (e - at) (drop at s)) ∷ lines (drop (e + 1) s))
 line-ended s at e h =
     let r = split (drop at s) at e h in
@@ -111,18 +111,18 @@ abbrev pub cut : List ℕ → Line
 cut text = record { text = text; ended = false }
 
 -- no LF in what is left
-pub no-end : (bs : List ℕ) (at : ℕ) → endOf at (lines bs) ≡ Cut → (lines bs ≡ cut bs ∷ []) ⊎ (bs ≡ [])
+pub no-end : (bs : List ℕ) (at : ℕ) → endOf at (lines bs) ≡ refuses 2 → (lines bs ≡ cut bs ∷ []) ⊎ (bs ≡ [])
 no-end [] at h = inr refl
 no-end (c ∷ cs) at h = inl (go (eqb c 10) refl (no-end cs (at + 1)))
   where
-    go : (b : Bool) → eqb c 10 ≡ b → (endOf (at + 1) (lines cs) ≡ Cut → (lines cs ≡ cut cs ∷ []) ⊎ (cs ≡ [])) → lines (c ∷ cs) ≡ cut (c ∷ cs) ∷ []
+    go : (b : Bool) → eqb c 10 ≡ b → (endOf (at + 1) (lines cs) ≡ refuses 2 → (lines cs ≡ cut cs ∷ []) ⊎ (cs ≡ [])) → lines (c ∷ cs) ≡ cut (c ∷ cs) ∷ []
     go true t ih = absurd (not-ended (at + 0) (sym (simp t at h)))
     go false t ih =
-        let h′ : endOf at (before c (lines cs)) ≡ Cut = simp t at h in
+        let h′ : endOf at (before c (lines cs)) ≡ refuses 2 = simp t at h in
         ⊎-elim (λ e. simp t (ap (before c) e)) (λ e. simp t (ap (λ (ds : List ℕ). before c (lines ds)) e ∙ ap (λ (ds : List ℕ). cut (c ∷ ds) ∷ []) (sym e)))
         (ih (sym (before-end at c (lines cs)) ∙ h′))
 
-pub line-cut : (s : List ℕ) (at : ℕ) → at < length s → lineEnd s at ≡ Cut → lines (drop at s) ≡ cut (drop at s) ∷ []
+pub line-cut : (s : List ℕ) (at : ℕ) → at < length s → lineEnd s at ≡ refuses 2 → lines (drop at s) ≡ cut (drop at s) ∷ []
 line-cut s at h e =
     ⊎-elim (λ k. k) (λ k. let l : length s - at ≡ 0 = sym (length-drop at s) ∙ ap length k in absurd (omega arith)) (no-end (drop at s) at e)
 

@@ -1,4 +1,4 @@
--- Bytes of a line by their places in the whole text: the bytes from `i` on stand at `at` + 2 i, where the line starts at `at`.
+-- Bytes of a line by their places in the whole text: if the line starts at `at`, its bytes from `i` on begin at `at` + 2 i.
 use mathlib.Core.Path.{_≡_, refl, sym, _∙_, ap}
 use mathlib.Core.Bool.{true}
 use mathlib.Core.List.{List, _++_}
@@ -41,7 +41,7 @@ module _ (text : List ℕ) (at end : ℕ) (first : at ≤ end) (last : end ≤ l
       let part = take (end - at) (drop at text) in
       ap isHex (sym (part-of-part text at end (2 * i) (2 * n) h last)) ∙ hex-take (drop (2 * i) part) n (hex-drop part i hex)
 
-  -- all bytes from byte `i` on, where `n` is how many there are
+  -- all `n` bytes from byte `i` on
   pub last-bytes : (i n : ℕ) → at + 2 * i + 2 * n ≡ end
       → bytesIn (take (2 * n) (drop (at + 2 * i) text)) ≡ drop i (bytesIn (take (end - at) (drop at text)))
   last-bytes i n h =

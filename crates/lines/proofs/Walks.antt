@@ -57,7 +57,7 @@ end-found s i found n h e =
 pub ends-done : (s : List ℕ) (i found : ℕ) → length s ≤ i → (not (eqb found 0) || holdsEnd (drop i s)) ≡ not (eqb found 0)
 ends-done s i found h = ap (λ (l : List ℕ). not (eqb found 0) || holdsEnd l) (read-done s i h) ∙ or-false (not (eqb found 0))
 
--- a line's end is behind a block that holds none
+-- a line's end is after a block that has none
 pub block-on : (s : List ℕ) (n i : ℕ) → i + n ≤ length s → holdsEnd (take n (drop i s)) ≡ false → lineEnd s i ≡ lineEnd s (i + n)
 block-on s zero i h e = let z : i ≡ i + 0 = omega arith in ap (lineEnd s) z
 block-on s (suc n) i h e =

@@ -9,7 +9,7 @@ abbrev pub there : {A : Type 0} → Option A → Bool
 there none = false
 there (some a) = true
 
--- the bytes, where there are any
+-- the bytes, if there are any
 abbrev pub bytesOf : Option (List ℕ) → List ℕ
 bytesOf none = []
 bytesOf (some bs) = bs

@@ -17,7 +17,7 @@ abbrev pub before : ℕ → List Line → List Line
 before c [] = record { text = c ∷ []; ended = false } ∷ []
 before c (l ∷ ls) = record { text = c ∷ l .text; ended = l .ended } ∷ ls
 
--- the lines of a text; the last one has no LF where the text does not end in one
+-- the lines of a text; the last one has no LF if the text does not end in one
 abbrev pub lines : List ℕ → List Line
 lines [] = []
 lines (c ∷ cs) = cond (eqb c 10) (record { text = []; ended = true } ∷ lines cs) (before c (lines cs))
@@ -38,6 +38,6 @@ unhex [] = some []
 unhex (c ∷ []) = none
 unhex (c ∷ d ∷ cs) = pair (digit c) (digit d) (unhex cs)
 
--- a line's bytes; none where it is empty, odd, holds another character or is not ended by LF
+-- a line's bytes; none if it is empty, odd, has another character or is not ended by LF
 abbrev pub frameBytes : Line → Option (List ℕ)
 frameBytes l = cond (l .ended) (cond (eqb (length (l .text)) 0) none (unhex (l .text))) none

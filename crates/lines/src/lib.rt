@@ -1,5 +1,5 @@
-// The job's text: where its lines end, and the hexadecimal in them. A byte is two characters, so byte `i` of a line stands at its
-// characters 2 i and 2 i + 1.
+// The job's text: where its lines end, and the hexadecimal in them. A byte is two characters, so byte `i` of a line is its characters 2 i
+// and 2 i + 1.
 ghost use mathlib.Core.Path.{_≡_};
 ghost use mathlib.Core.Option.{some};
 ghost use mathlib.Core.Bool.{true, cond};
@@ -8,7 +8,7 @@ ghost use Prim.Native.Nat.{_*_, _+_, _^_, _≤_, _<_};
 ghost use lib.ListN.{length, take, drop, getD};
 ghost use Rattle.octets.specs.Octets.{value};
 ghost use Rattle.lines.specs.Lines.{digit, unhex};
-ghost use Rattle.lines.specs.Ends.{holdsEnd, lineEnd};
+ghost use Rattle.lines.specs.Ends.{holdsEnd, lineEnd, endTold};
 ghost use Rattle.lines.specs.Hex.{there, isHex, isFrame, bytesIn, bytesOf};
 
 // Where a line ends.
@@ -27,7 +27,7 @@ fn is_end(c: u8) -> u8
     0
 }
 
-// Whether an LF stands in `s`. All characters are looked at, with no early end, so that the compiler takes many at a time.
+// Whether `s` has an LF. All characters are looked at, with no early end, so that the compiler takes many at a time.
 fn has_end(s: &[u8]) -> bool
     ensures { λ r. ⌜ r ≡ holdsEnd (now (s .entry)) ⌝ }
 {
@@ -40,7 +40,7 @@ fn has_end(s: &[u8]) -> bool
     found != 0
 }
 
-// A place from which the line that starts at `at` has the same end: an LF, or at most 32 characters further.
+// A place from which the line that starts at `at` has the same end: its LF, or a place at most 32 characters on.
 fn near_end(s: &[u8], at: usize) -> usize
     ensures { λ r. ⌜ lineEnd (now (s .entry)) r ≡ lineEnd (now (s .entry)) at ⌝ }
 {
@@ -78,9 +78,9 @@ fn skip_blocks(s: &[u8], at: usize) -> usize
     i
 }
 
-// The end of a line of which the first characters are behind `at`.
+// The end of a line whose characters before `at` were looked at.
 fn far_end(s: &[u8], at: usize) -> LineEnd
-    ensures { λ r. ⌜ r ≡ lineEnd (now (s .entry)) at ⌝ }
+    ensures { λ r. ⌜ endTold r ≡ lineEnd (now (s .entry)) at ⌝ }
 {
     let mut i = skip_blocks(s, at);
     while i < s.len() {
@@ -92,10 +92,10 @@ fn far_end(s: &[u8], at: usize) -> LineEnd
     LineEnd::Cut
 }
 
-// The end of the line that starts at `at`: the place of its LF, or `Cut` where no LF ends it. Most lines are short, and the others are
-// looked at in blocks.
+// The end of the line that starts at `at`: the place of its LF, or `Cut` if no LF ends it. Most lines are short; the others are looked at
+// in blocks.
 pub fn line_end(s: &[u8], at: usize) -> LineEnd
-    ensures { λ r. ⌜ r ≡ lineEnd (now (s .entry)) at ⌝ }
+    ensures { λ r. ⌜ endTold r ≡ lineEnd (now (s .entry)) at ⌝ }
 {
     let near = near_end(s, at);
     if near < s.len() {

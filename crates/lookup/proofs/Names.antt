@@ -1,4 +1,4 @@
--- What the walk over the maps' names goes by, from the last to the first.
+-- Laws for the walk over the maps' names, from the last to the first.
 use mathlib.Core.Path.{_≡_, refl, sym, _∙_, ap}
 use mathlib.Core.Bool.{Bool, true, false}
 use mathlib.Core.Option.{some}

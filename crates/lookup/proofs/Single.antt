@@ -4,13 +4,13 @@ use native.Mathlib.Omega.{arith}
 use lib.ListN.{replicate, length-replicate}
 use Rattle.octets.proofs.Single.{OneResult}
 use Rattle.object.specs.Tables.{noMap}
-use Rattle.lookup.specs.Names.{foundOf}
+use Rattle.lookup.specs.Names.{foundTold}
 use Rattle.lookup.specs.declared.Found.{Found}
 use Rattle.lookup.specs.declared.Found.the-variants.{At, Nothing}
 use Rattle.lookup.proofs.find_map.Kinds as find-map-kinds
 use Rattle.lookup.proofs.find_map.Reads as find-map
 
-found-once : (r r′ : Found) → foundOf r ≡ foundOf r′ → r ≡ r′
+found-once : (r r′ : Found) → foundTold r ≡ foundTold r′ → r ≡ r′
 found-once (At i) (At j) e = cc
 found-once (At i) Nothing e = cc
 found-once Nothing (At j) e = cc

@@ -1,4 +1,4 @@
--- The answer of the definitions by what is known of the job and of the room.
+-- The answer of the definitions, by what is known of the job and of the room.
 use mathlib.Core.Path.{_≡_, refl, sym, _∙_, ap}
 use mathlib.Core.List.{List, [], _∷_, _++_}
 use Prim.Native.Nat.{ℕ, _+_, _-_, _*_, _≤_, _<_}
@@ -17,7 +17,7 @@ pub too-short : (out bytes : List ℕ) (n : ℕ) → n ≡ length bytes → leng
     → (refusal 8 0 n ≡ outcome (fitted (length out) bytes)) × (out ≡ outputAfter (fitted (length out) bytes) out)
 too-short out bytes n e h = let t = lt-leb (length bytes) (length out) (omega (arith, e)) in (rw (t, e), rw t)
 
--- one with room has the object at its front, and behind it what was there
+-- one with room has the object at its front, and after it what was there
 pub fits : (out bytes l : List ℕ) (n : ℕ) → n ≡ length bytes → n ≤ length out → l ≡ bytes
     → (object n ≡ outcome (fitted (length out) bytes)) × (putMid 0 (n - 0) out l ≡ outputAfter (fitted (length out) bytes) out)
 fits out bytes l n e h q =

@@ -1,21 +1,22 @@
 -- What the promise of `make` says of each job, each as a theorem of its own: a refusal changes no byte; an accepted job changes only the
--- bytes that its object takes up; those bytes are the object of the definitions; and a job is refused for its room exactly when its object
--- is longer than the output.
+-- bytes that its object takes up; those bytes are the object of the definitions; and a job is refused for lack of room exactly if it is
+-- accepted and its object is longer than the output.
 use mathlib.Core.Path.{_≡_, refl, sym, _∙_, ap, subst}
 use mathlib.Core.Bool.{Bool, true, false, cond}
-use mathlib.Core.List.{List, [], _∷_, _++_}
+use mathlib.Core.List.{List, _++_}
 use Prim.Native.Nat.{ℕ, _+_, _≤_, _<_}
 use native.Mathlib.Omega.{arith}
 use lib.ListN.{length, take, drop}
 use lib.Seq.{drop-at, take-at}
 use lib.Dec.{leb}
-use borrow.Author.Tests.{leb-true}
+use borrow.Author.Tests.{le-leb, lt-leb, leb-false}
 use Rattle.ast.specs.Job.{Job}
 use Rattle.object.specs.Object as whole
 use Rattle.refusals.specs.Checked.{Checked, checked, accepted, faulty}
 use Rattle.job.specs.Answer.{Answer, made, refused, fitted, answer, outputAfter}
 use Rattle.maker.specs.Made.{Outcome, object, refusal, outcome}
-use Rattle.maker.proofs.Answered.{answer-accepted}
+use Rattle.maker.proofs.Answered.{answer-accepted, answer-faulty}
+use Rattle.maker.proofs.Numbers.{LowChecked, checked-low}
 
 -- the answer and the output afterwards, as `make` promises them of a job and an output
 pub record Met (text out : List ℕ) (said : Outcome) (after : List ℕ) : Type 0 where
@@ -68,3 +69,45 @@ accepted-writes text out after n m =
         rest = rw w (drop-at bytes (drop (length bytes) out) n (sym l)) ∙ ap (λ (k : ℕ). drop k out) (sym l);
       },
     )
+
+-- ---- the room
+
+-- a job that is accepted is refused for lack of room exactly if its object is longer than the output
+module _ (text out after : List ℕ) (said : Outcome) (met : Met text out said after) (j : Job) (c : checked text ≡ accepted j) where
+  fitting : said ≡ outcome (fitted (length out) (whole.object j))
+  fitting = met .answered ∙ ap outcome (answer-accepted text (length out) j c)
+
+  pub room-refused : length out < length (whole.object j) → said ≡ refusal 8 0 (length (whole.object j))
+  room-refused h = fitting ∙ rw (lt-leb (length (whole.object j)) (length out) h)
+
+  pub room-made : length (whole.object j) ≤ length out → said ≡ object (length (whole.object j))
+  room-made h = fitting ∙ rw (le-leb (length (whole.object j)) (length out) h)
+
+-- what is known of a job that is refused 8
+pub record NoRoom (text out : List ℕ) (l k : ℕ) (j : Job) : Type 0 where
+  pub job : checked text ≡ accepted j
+  pub longer : length out < length (whole.object j)
+  pub line : l ≡ 0
+  pub needed : k ≡ length (whole.object j)
+
+-- and no other job is: the table of refusals for a job's lines has no 8
+pub refused-room : (text out after : List ℕ) (l k : ℕ) → Met text out (refusal 8 l k) after → (j : Job) × NoRoom text out l k j
+refused-room text out after l k m = go (checked text) refl
+  where
+    go : (c : Checked) → checked text ≡ c → (j : Job) × NoRoom text out l k j
+    go (faulty n i) e =
+        let a = m .answered ∙ ap outcome (answer-faulty text (length out) n i e) in
+        let eight : 8 ≡ n = cc in
+        absurd (omega (arith, subst LowChecked e (checked-low text)))
+    go (accepted j) e = (j, by-room (leb (length (whole.object j)) (length out)) refl)
+      where
+        by-room : (b : Bool) → leb (length (whole.object j)) (length out) ≡ b → NoRoom text out l k j
+        by-room true q =
+            let f : fitted (length out) (whole.object j) ≡ made (whole.object j) = rw q in
+            let x = m .answered ∙ ap outcome (answer-accepted text (length out) j e ∙ f) in
+            let z : _≡_ {A = ℕ} 0 1 = cc in
+            absurd (omega arith)
+        by-room false q =
+            let f : fitted (length out) (whole.object j) ≡ refused 8 0 (length (whole.object j)) = rw q in
+            let x = m .answered ∙ ap outcome (answer-accepted text (length out) j e ∙ f) in
+            record { job = e; longer = leb-false (length (whole.object j)) (length out) q; line = cc; needed = cc }

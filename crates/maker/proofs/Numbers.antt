@@ -1,5 +1,5 @@
--- Checking a job refuses with the numbers 1 to 7: 8 is left to the room of the output, so no other refusal has a length needed.
-use mathlib.Core.Path.{_≡_, refl, sym, _∙_, ap, subst}
+-- Checking a job refuses with the numbers 1 to 7. Only 8, for lack of room, has a length needed.
+use mathlib.Core.Path.{_≡_, refl}
 use mathlib.Core.Bool.{Bool, true, false, cond}
 use mathlib.Core.Option.{Option, none, some}
 use mathlib.Core.List.{List, [], _∷_}
@@ -7,10 +7,11 @@ use Prim.Native.Nat.{ℕ, suc, _≤_}
 use native.Mathlib.Omega.{arith}
 use lib.Dec.{ltb}
 use lib.ListN.{length}
-use Rattle.octets.proofs.Lists.{All}
+use Rattle.octets.specs.All.{All}
+use Rattle.ast.specs.Job.{lastMap}
 use Rattle.lines.specs.Lines.{Line, lines, frameBytes}
 use Rattle.frames.specs.Frames.{Frame, licence, mapDecl, program, code, relocation, frameOf}
-use Rattle.refusals.specs.Checked.{Stage, Reason, first, reasons, Step, went, stopped, takeFrame, takeBytes, takeLine, takeLines, advance, empty, Checked, accepted, faulty, checked}
+use Rattle.refusals.specs.Checked.{Stage, Reason, first, reasons, Step, went, stopped, resolved, added, takeFrame, takeBytes, takeLine, takeLines, empty, Checked, accepted, faulty, checked}
 use Rattle.refusals.specs.Refusal.{numberOf, neededOf}
 use Rattle.refusals.specs.declared.Refusal.{Refusal}
 use Rattle.refusals.specs.declared.Refusal.the-variants.{TooLong, BadLine, BadFrame, Misplaced, BadText, OverLimit, UnknownMap, NoRoom}
@@ -40,13 +41,24 @@ reasons-low s (licence text) = (omega arith, (omega arith, (omega arith, tt)))
 reasons-low s (mapDecl kind key value entries name) = (omega arith, (omega arith, (omega arith, tt)))
 reasons-low s (program section symbol) = (omega arith, (omega arith, tt))
 reasons-low s (code bytes) = (omega arith, tt)
-reasons-low s (relocation offset name) = (omega arith, (omega arith, (omega arith, (omega arith, tt))))
+reasons-low s (relocation offset name) = (omega arith, (omega arith, (omega arith, tt)))
+
+added-low : (s : Stage) (f : Frame) → LowStep (added s f)
+added-low s (licence text) = tt
+added-low s (mapDecl kind key value entries name) = tt
+added-low s (program section symbol) = tt
+added-low s (code bytes) = tt
+added-low s (relocation offset name) = go (lastMap name (s .job .maps))
+  where
+    go : (o : Option ℕ) → LowStep (resolved s offset name o)
+    go none = omega arith
+    go (some k) = tt
 
 frame-low : (s : Stage) (f : Frame) → LowStep (takeFrame s f)
 frame-low s f = go (first (reasons s f)) (first-low (reasons s f) (reasons-low s f))
   where
-    go : (o : Option ℕ) → LowOption o → LowStep (elim o as (λ x. Step) [ some n ↦ stopped n | none ↦ went (advance f s) ])
-    go none h = tt
+    go : (o : Option ℕ) → LowOption o → LowStep (elim o as (λ x. Step) [ some n ↦ stopped n | none ↦ added s f ])
+    go none h = added-low s f
     go (some n) h = h
 
 bytes-low : (s : Stage) (bs : List ℕ) → LowStep (takeBytes s bs)

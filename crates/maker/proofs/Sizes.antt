@@ -1,7 +1,7 @@
--- The sizes that the code weighs are those of the definitions; and how many sections an object has at most.
+-- The sizes that the code finds are those of the definitions. And how many sections an object has at most.
 use mathlib.Core.Path.{_≡_, refl, sym, _∙_, ap}
-use mathlib.Core.List.{List, [], _∷_, _++_, map, map-append, append-nil, append-assoc}
-use Prim.Native.Nat.{ℕ, suc, _+_, _-_, _*_, _≤_, _<_}
+use mathlib.Core.List.{List, [], _++_, map, map-append, append-assoc}
+use Prim.Native.Nat.{ℕ, suc, _+_, _-_, _*_, _≤_}
 use native.Mathlib.Omega.{arith}
 use lib.ListN.{length, take, length-append, length-replicate}
 use lib.Seq.{length-take-le}
@@ -9,18 +9,14 @@ use borrow.Rule.Slice.PartMut.{putMid}
 use Rattle.octets.specs.Octets.{zeros}
 use Rattle.octets.specs.Over.{over}
 use Rattle.octets.proofs.Filling.{Filling, fill-start, fill-as, fill-on, fill-done, over-part}
-use Rattle.octets.proofs.Lists.{All}
-use Rattle.ast.specs.Job.{Job}
 use Rattle.elf.specs.Strings.{addStrings, emptyTable}
-use Rattle.elf.specs.Elf.{Section, alignTo, endOf, padding, laid, fileHeader, headerBytes, nullHeader, sectionHeaders, file}
+use Rattle.elf.specs.Elf.{alignTo, endOf, padding, laid, fileHeader, headerBytes, nullHeader, sectionHeaders}
 use Rattle.elf.specs.Row.{placesAt}
 use Rattle.elf.proofs.Joined.{places-at}
 use Rattle.elf.proofs.Places.{align-up, length-laid}
-use Rattle.btf.specs.Btf.{btfBytes, addTypes, start, finished}
-use Rattle.btf.specs.Maps.{mapTypes, btfTypes}
-use Rattle.btf.proofs.Types.{length-finished}
+use Rattle.btf.specs.Maps.{mapTypes}
 use Rattle.object.specs.declared.BpfObject.{BpfObject}
-use Rattle.object.specs.Read.{declaredMaps, jobIn, licenceIn}
+use Rattle.object.specs.Read.{declaredMaps, jobIn}
 use Rattle.object.specs.declared.License.{License}
 use Rattle.object.specs.declared.License.the-variants.{Gpl, Text}
 use Rattle.object.specs.Kept.{Kept, LicenceNamed}
@@ -28,16 +24,13 @@ use Rattle.object.specs.Object.{declaredSections, firstProgram, object}
 use Rattle.object.proofs.Counts.{symtab-number, past-all-near, first-near}
 use Rattle.object.proofs.Programs.{programs-length}
 use Rattle.contents.specs.Slots.{licenceLen}
-use Rattle.contents.proofs.Slots.{licence-length}
-use Rattle.strtab.specs.Rows.{strtabOf}
 use Rattle.headers.specs.Names.{sectionNames}
 use Rattle.elf.specs.Headers.{headersBytes}
 use Rattle.elf.proofs.Headers.{headers-length}
 use Rattle.members.specs.Section.{roomsOf}
 use Rattle.spans.proofs.Decls.{rooms-size}
-use Rattle.measure.specs.declared.Sizes.{Sizes}
 use Rattle.measure.specs.declared.Measured.{Measured}
-use Rattle.measure.specs.Measured.{SizesOf, Small, sectionsOf, tableSections, rowsOf, rowsFrom, measuredOf}
+use Rattle.measure.specs.Measured.{sectionsOf, tableSections, rowsOf, rowsFrom, measuredOf}
 use Rattle.measure.proofs.Whole.{aligned, object-length}
 use Rattle.sections.specs.Pieces.{allPieces}
 use Rattle.sections.proofs.Alike.{alike-all, alike-laid, alike-aligned, rows-headers, rows-count}

@@ -1,5 +1,5 @@
-// `make`: a whole object or one refusal. The object is measured first; then each section writer is lent its own part of the output, from the
-// section's place to its end, and what lies between two sections is cleared.
+// `make`: a whole object or one refusal. The object is measured first. Then each section writer is lent its own part of the output, and the
+// bytes between two sections are cleared.
 ghost use mathlib.Core.Path.{_≡_};
 ghost use Prim.Native.Nat.{_+_, _≤_};
 ghost use lib.ListN.{length};
@@ -8,17 +8,20 @@ ghost use Rattle.object.specs.Kept.{Kept};
 ghost use Rattle.named.specs.There.{Lent};
 ghost use Rattle.object.specs.Object as whole;
 ghost use Rattle.job.specs.Answer.{answer, fitted, outputAfter};
-ghost use Rattle.maker.specs.Made.{outcomeOf, outcome};
+ghost use Rattle.maker.specs.Made.{outcomeOf, outcome, endedWith};
 ghost use Rattle.elf.specs.Headers.{headersBytes};
 ghost use Rattle.measure.specs.Measured.{rowsOf, measuredOf, SizesOf, Small};
 ghost use Rattle.btf.specs.Btf.{addTypes, start};
 ghost use Rattle.btf.specs.Maps.{mapTypes, btfTypes};
 use btf::BtfBuilder;
+use elf::FileHeader;
+use elf::Section;
 use job::Parsing;
 use measure::Measured;
 use measure::Sizes;
 use object::BpfObject;
 use refusals::Refusal;
+use spans::BtfSize;
 
 // What `make` is to write: the sizes of the sections, and how many bytes of `.BTF` its types take.
 struct Weighed {
@@ -33,7 +36,7 @@ struct MapsWeighed {
     room: usize,
 }
 
-// With no map no table is handed on, since a function has a copy of a table that it is handed.
+// With no map, no table is passed on, since a table that is passed is copied.
 fn weigh_maps<'a>(text: &[u8], object: BpfObject, ats: &'a [u16], lens: &'a [u16]) -> MapsWeighed
     requires { ⌜ Lent (now text) object (now ats) (now lens) ⌝ }
     ensures { λ r. ⌜ r .types ≡ length (addTypes (btfTypes (declaredMaps (now (text .entry)) object)) start .types) ⌝ }
@@ -44,8 +47,8 @@ fn weigh_maps<'a>(text: &[u8], object: BpfObject, ats: &'a [u16], lens: &'a [u16
     let count = object.map_count;
     if count == 0 {
         return MapsWeighed {
-            types: 92,
-            strings: 27,
+            types: BtfSize::TYPES,
+            strings: BtfSize::STRINGS,
             room: 0,
         };
     }
@@ -59,7 +62,7 @@ fn weigh_maps<'a>(text: &[u8], object: BpfObject, ats: &'a [u16], lens: &'a [u16
     }
 }
 
-// The sizes of the sections whose contents are not counted in the tables themselves.
+// The sizes of the sections whose lengths are not in the tables.
 fn weigh<'a>(text: &[u8], object: BpfObject, ats: &'a [u16], lens: &'a [u16]) -> Weighed
     requires { ⌜ Lent (now text) object (now ats) (now lens) ⌝ }
     ensures { λ r. ⌜ SizesOf (jobIn (now (text .entry)) object) (r .sizes) ⌝ }
@@ -81,8 +84,8 @@ fn weigh<'a>(text: &[u8], object: BpfObject, ats: &'a [u16], lens: &'a [u16]) ->
     }
 }
 
-// The whole object, into a part of exactly its length. The headers of its sections are measured before.
-fn write<'a>(
+// The whole object, into a part of exactly its length. The headers of its sections are in `rows`.
+fn encode<'a>(
     out: &mut [u8],
     text: &[u8],
     rows: &[u8],
@@ -104,7 +107,7 @@ fn write<'a>(
 {
     let count = measured.count;
     elf::put_file_header(
-        &mut out[0..64],
+        &mut out[0..FileHeader::SIZE],
         measured.at,
         count as u16,
         (count - 1) as u16,
@@ -112,17 +115,17 @@ fn write<'a>(
     let end = sections::write_sections(out, text, object, ats, lens, sizes, measured.names, types);
     let at = measured.at as usize;
     octets::clear(&mut out[end..at]);
-    let behind = at + 64 * count;
+    let behind = at + Section::SIZE * count;
     octets::copy(&mut out[at..behind], rows);
 }
 
-// What `make` answers: how long the object is that stands in the output, or the one refusal.
+// What `make` answers: the length of the object in the output, or the one refusal.
 pub enum Making {
     Made(usize),
     Refused(Refusal),
 }
 
-// The object of an accepted job, where the output has room for it.
+// The object of an accepted job, if the output has room for it.
 fn build(text: &[u8], out: &mut [u8], object: BpfObject) -> Making
     requires { ⌜ Kept (now text) object ⌝ }
     ensures { λ r. ⌜ outcomeOf r ≡ outcome (fitted (length (now (out .entry))) (whole.object (jobIn (now (text .entry)) object))) ⌝ }
@@ -130,14 +133,14 @@ fn build(text: &[u8], out: &mut [u8], object: BpfObject) -> Making
 {
     let weighed = weigh(text, object, &object.map_at, &object.map_len);
     let sizes = weighed.sizes;
-    let mut table = [0u8; 4544];
+    let mut table = [0u8; Measured::TABLE];
     let measured = measure::measure(text, &mut table, object, sizes);
     let len = measured.len;
     if out.len() < len {
         return Making::Refused(Refusal::NoRoom(len));
     }
-    let headers = 64 * measured.count;
-    write(
+    let headers = Section::SIZE * measured.count;
+    encode(
         &mut out[0..len],
         text,
         &table[0..headers],
@@ -151,6 +154,16 @@ fn build(text: &[u8], out: &mut [u8], object: BpfObject) -> Making
     Making::Made(len)
 }
 
+// What `make` answers, once a job has this answer and `written` bytes of its object are in the output.
+fn ended(answer: Parsing, written: usize) -> Making
+    ensures { λ r. ⌜ r ≡ endedWith answer written ⌝ }
+{
+    match answer {
+        Parsing::Accepted => Making::Made(written),
+        Parsing::Refused(refusal) => Making::Refused(refusal),
+    }
+}
+
 // A whole object or one refusal: the object of the job at the front of the output, or an output that is as it was.
 pub fn make(job: &[u8], out: &mut [u8]) -> Making
     ensures { λ r. ⌜ outcomeOf r ≡ outcome (answer (now (job .entry)) (length (now (out .entry)))) ⌝ }
@@ -158,8 +171,8 @@ pub fn make(job: &[u8], out: &mut [u8]) -> Making
 {
     let parsed = job::parse(job);
     let answer = parsed.answer;
-    match answer {
-        Parsing::Accepted => build(job, out, parsed.object),
-        Parsing::Refused(refusal) => Making::Refused(refusal),
-    }
+    let Parsing::Accepted = answer else {
+        return ended(answer, 0);
+    };
+    build(job, out, parsed.object)
 }

@@ -130,7 +130,7 @@ low-programmed {n} {m} symtab p l code short few = go (eqb (p .relocs) 0)
     go true = low-more (low-coded p l code short) (omega arith)
     go false = rel-low (p .relocs) symtab (m .count) (p .section .len + 4) (low-coded p l code short) few (omega arith)
 
--- and with the tables behind them
+-- and with the tables after them
 pub low-symtab : {n : ℕ} {m : Measuring} (symbols : ℕ) → Low n m → symbols ≤ 98 → Low (suc n) (withSymbols m symbols)
 low-symtab {n} {m} symbols l h = low-on (symtabAt m symbols) 7 l (omega (arith, align-near 8 (m .end) (omega arith))) (omega arith) (omega arith)
 

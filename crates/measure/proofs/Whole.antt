@@ -2,13 +2,13 @@
 use mathlib.Core.Path.{_≡_, refl, sym, _∙_, ap, subst}
 use mathlib.Core.Bool.{Bool, true, false, cond}
 use mathlib.Core.List.{List, [], _∷_, _++_, map, map-append, append-assoc, append-nil}
-use Prim.Native.Nat.{ℕ, zero, suc, _+_, _-_, _*_, _≤_, _<_}
+use Prim.Native.Nat.{ℕ, suc, _+_, _*_}
 use native.Mathlib.Omega.{arith}
-use lib.ListN.{length, take, drop, length-append, length-map, length-drop, length-replicate}
-use lib.Seq.{length-take-le}
+use lib.ListN.{length, take, length-append, length-map, length-replicate}
 use lib.Dec.{eqb, eqb·suc-zero}
 use Rattle.octets.specs.Octets.{ascii, zeros}
-use Rattle.octets.proofs.Lists.{All, all-append}
+use Rattle.octets.specs.All.{All}
+use Rattle.octets.proofs.Lists.{all-append}
 use Rattle.ast.specs.Job.{Map, Job}
 use Rattle.ast.specs.Job as job
 use Rattle.elf.specs.Strings.{addStrings, emptyTable}
@@ -24,14 +24,15 @@ use Rattle.btf.specs.Maps.{mapTypes, btfTypes}
 use Rattle.object.specs.declared.Slot.{Slot}
 use Rattle.object.specs.declared.Program.{Program}
 use Rattle.object.specs.declared.BpfObject.{BpfObject}
-use Rattle.object.specs.Read.{bytesAt, programIn, programsIn, relocationsIn, jobIn, declaredMaps}
+use Rattle.object.specs.Read.{programIn, programsIn, jobIn, declaredMaps}
 use Rattle.object.specs.Kept.{Kept, ProgramKept, AllKept}
 use Rattle.object.specs.Object.{plain, licenseSection, mapSections, relSections, past, programSections, pastAll, firstProgram, symbols, declaredSections, symbolSection, tableSection, object}
 use Rattle.object.proofs.Counts.{symtab-number, count-symbols}
 use Rattle.object.proofs.Names.{name-length}
+use Rattle.object.proofs.Slots.{AllCounted, all-counted}
 use Rattle.strtab.specs.Rows.{behind, firstOf, strtabOf, symtabOf}
 use Rattle.headers.specs.Names.{sectionNames, shstrtabOf}
-use Rattle.strtab.proofs.Whole.{first-of, behind-program, programs-there, count-declared, symtab-long}
+use Rattle.strtab.proofs.Whole.{first-of, past-of, count-declared, symtab-long}
 use Rattle.measure.specs.declared.Measuring.{Measuring}
 use Rattle.measure.specs.declared.Measured.{Measured}
 use Rattle.measure.specs.declared.Sizes.{Sizes}
@@ -46,7 +47,7 @@ rows-begin all = record { is = refl; size = refl; counted = omega arith; ends = 
 
 module _ (j : Job) (z : Sizes) (s : SizesOf j z) where
   abbrev programs : ℕ → List Section
-  programs first = programSections (j .maps) (pastAll (j .programs) (firstProgram (j .maps))) first (j .programs)
+  programs first = programSections (pastAll (j .programs) (firstProgram (j .maps))) first (j .programs)
 
   rows-licence : Rows (sectionsOf j) (nullSection ∷ licenceAt z ∷ []) (licensed z) (mapSections (j .maps) ++ programs (firstProgram (j .maps)) ++ tableSections j)
   rows-licence =
@@ -71,7 +72,7 @@ module _ (j : Job) (z : Sizes) (s : SizesOf j z) where
       go [] e = start [] e
       go (m ∷ ms) e = rw (eqb·suc-zero (length ms)) (rows-maps m ms (programs 4 ++ tableSections j) e (start (m ∷ ms) e))
 
-  -- ---- behind the programs
+  -- ---- after the programs
 
   names-all : map (λ x. x .name) (sectionsOf j) ≡ sectionNames j
   names-all = map-append (λ x. x .name) (declaredSections j) (tableSections j)
@@ -97,39 +98,29 @@ module _ (j : Job) (z : Sizes) (s : SizesOf j z) where
 
 -- ---- the programs of the tables
 
-same-programs : (text : List ℕ) (slots : List Slot) (ps : List Program) → length slots ≡ 256 → AllKept text 256 ps → AllSame (programsIn text slots ps) ps
-same-programs text slots [] l k = tt
-same-programs text slots (p ∷ ps) l k =
-    let n : length (take (p .relocs) (drop (p .first) slots)) ≡ p .relocs =
-    length-take-le (p .relocs) (drop (p .first) slots) (rw length-drop (omega (arith, k .0 .slots))) in (
-      record {
-        section = name-length text (p .section) (k .0 .section);
-        code = k .0 .code;
-        relocations = count-relocations text (take (p .relocs) (drop (p .first) slots)) ∙ n;
-      },
-      same-programs text slots ps l (k .1),
-    )
-  where
-    count-relocations : (t : List ℕ) (ss : List Slot) → length (relocationsIn t ss) ≡ length ss
-    count-relocations t [] = refl
-    count-relocations t (x ∷ ss) = ap suc (count-relocations t ss)
+same-programs : (text : List ℕ) (slots : List Slot) (n : ℕ) (ps : List Program) → AllCounted text slots ps → AllKept text n ps → AllSame (programsIn text slots ps) ps
+same-programs text slots n [] c k = tt
+same-programs text slots n (p ∷ ps) c k = (
+  record { section = name-length text (p .section) (k .0 .section); code = k .0 .code; relocations = c .0 },
+  same-programs text slots n ps (c .1) (k .1),
+)
 
-number-of : (text : List ℕ) (slots : List Slot) (at : ℕ) (ps : List Program) → length slots ≡ 256 → AllKept text 256 ps → pastAll (programsIn text slots ps) at ≡ behindAll ps at
-number-of text slots at [] l k = refl
-number-of text slots at (p ∷ ps) l k =
-    let b = behind-program text slots at p (omega (arith, k .0 .slots)) in
-    ap (pastAll (programsIn text slots ps)) b ∙ number-of text slots (behind (p .relocs) at) ps l (k .1)
+number-of : (text : List ℕ) (slots : List Slot) (at : ℕ) (ps : List Program) → AllCounted text slots ps → pastAll (programsIn text slots ps) at ≡ behindAll ps at
+number-of text slots at [] c = refl
+number-of text slots at (p ∷ ps) c =
+    let b = past-of at (programIn text slots p .relocations) ∙ ap (λ (n : ℕ). behind n at) (c .0) in
+    ap (pastAll (programsIn text slots ps)) b ∙ number-of text slots (behind (p .relocs) at) ps (c .1)
 
 -- ---- alignments and the length
 
-aligned-rel : (ms : List Map) (symtab at : ℕ) (name : List ℕ) (rs : List job.Relocation) → All Aligned (relSections ms symtab at name rs)
-aligned-rel ms symtab at name [] = tt
-aligned-rel ms symtab at name (r ∷ rs) = (omega arith, tt)
+aligned-rel : (symtab at : ℕ) (name : List ℕ) (rs : List job.Relocation) → All Aligned (relSections symtab at name rs)
+aligned-rel symtab at name [] = tt
+aligned-rel symtab at name (r ∷ rs) = (omega arith, tt)
 
-aligned-programs : (ms : List Map) (symtab at : ℕ) (ps : List job.Program) → All Aligned (programSections ms symtab at ps)
-aligned-programs ms symtab at [] = tt
-aligned-programs ms symtab at (p ∷ ps) =
-    (omega arith, all-append Aligned (relSections ms symtab at (p .section) (p .relocations)) (programSections ms symtab (past (p .relocations) at) ps) (aligned-rel ms symtab at (p .section) (p .relocations)) (aligned-programs ms symtab (past (p .relocations) at) ps))
+aligned-programs : (symtab at : ℕ) (ps : List job.Program) → All Aligned (programSections symtab at ps)
+aligned-programs symtab at [] = tt
+aligned-programs symtab at (p ∷ ps) =
+    (omega arith, all-append Aligned (relSections symtab at (p .section) (p .relocations)) (programSections symtab (past (p .relocations) at) ps) (aligned-rel symtab at (p .section) (p .relocations)) (aligned-programs symtab (past (p .relocations) at) ps))
 
 aligned-maps : (ms : List Map) → All Aligned (mapSections ms)
 aligned-maps [] = tt
@@ -138,9 +129,9 @@ aligned-maps (m ∷ ms) = (omega arith, (omega arith, tt))
 pub aligned : (j : Job) → All Aligned (sectionsOf j)
 aligned j =
     let first = firstProgram (j .maps) in
-    let later = programSections (j .maps) (pastAll (j .programs) first) first (j .programs) in
+    let later = programSections (pastAll (j .programs) first) first (j .programs) in
     all-append Aligned (declaredSections j) (tableSections j)
-    (omega arith, all-append Aligned (mapSections (j .maps)) later (aligned-maps (j .maps)) (aligned-programs (j .maps) (pastAll (j .programs) first) first (j .programs)))
+    (omega arith, all-append Aligned (mapSections (j .maps)) later (aligned-maps (j .maps)) (aligned-programs (pastAll (j .programs) first) first (j .programs)))
     (omega arith, (omega arith, (omega arith, tt)))
 
 pub object-length : (j : Job) → length (object j) ≡ alignTo 8 (endOf 64 (sectionsOf j)) + 64 * suc (length (sectionsOf j))
@@ -153,7 +144,7 @@ object-length j =
 
 -- ---- the whole
 
--- the headers and the answer, where all sections are measured
+-- the headers and the answer, when all sections are measured
 pub measured-is : (j : Job) (rows : List code.Section) (m : Measuring) (at : ℕ) → Rows (sectionsOf j) rows m [] → m .names ≡ length (shstrtabOf j) → at ≡ alignTo 8 (m .end)
     → (rows ≡ rowsOf j) × (_≡_ {A = Measured} (record { count = m .count; at = at; names = m .names; len = at + 64 * m .count }) (measuredOf j))
 measured-is j rows m at r names e =
@@ -177,12 +168,11 @@ module _ (text : List ℕ) (o : BpfObject) (k : Kept text o) (z : Sizes) (s : Si
       let n = count-declared text o k in
       let ps = take (o .«program_count») (o .programs) in
       let j = jobIn text o in
-      let kept = programs-there text o k .kept in
       let number : symtab ≡ pastAll (j .programs) (firstProgram (declaredMaps text o)) =
-      t ∙ ap (behindAll ps) (f ∙ sym (first-of (declaredMaps text o) ∙ ap firstOf n)) ∙ sym (number-of text (o .slots) (firstProgram (declaredMaps text o)) ps (k .sound .slots) kept) in
-      let before : Rows (sectionsOf j) (frontRows z (o .«map_count»)) (front z (o .«map_count»)) (programSections (declaredMaps text o) symtab (front z (o .«map_count») .count) (j .programs) ++ tableSections j) =
-      subst (λ (c : ℕ). Rows (sectionsOf j) (frontRows z c) (front z c) (programSections (declaredMaps text o) symtab (front z c .count) (j .programs) ++ tableSections j)) n
+      t ∙ ap (behindAll ps) (f ∙ sym (first-of (declaredMaps text o) ∙ ap firstOf n)) ∙ sym (number-of text (o .slots) (firstProgram (declaredMaps text o)) ps (all-counted text o k)) in
+      let before : Rows (sectionsOf j) (frontRows z (o .«map_count»)) (front z (o .«map_count»)) (programSections symtab (front z (o .«map_count») .count) (j .programs) ++ tableSections j) =
+      subst (λ (c : ℕ). Rows (sectionsOf j) (frontRows z c) (front z c) (programSections symtab (front z c .count) (j .programs) ++ tableSections j)) n
       (subst (λ (y : ℕ). Rows (sectionsOf j) (frontRows z (length (declaredMaps text o))) (front z (length (declaredMaps text o)))
-      (programSections (declaredMaps text o) y (front z (length (declaredMaps text o)) .count) (j .programs) ++ tableSections j)) (sym number) (rows-front j z s)) in
-      let declared = rows-programs (sectionsOf j) (declaredMaps text o) symtab (tableSections j) (frontRows z (o .«map_count»)) (front z (o .«map_count»)) (j .programs) ps (same-programs text (o .slots) ps (k .sound .slots) kept) before in
+      (programSections y (front z (length (declaredMaps text o)) .count) (j .programs) ++ tableSections j)) (sym number) (rows-front j z s)) in
+      let declared = rows-programs (sectionsOf j) symtab (tableSections j) (frontRows z (o .«map_count»)) (front z (o .«map_count»)) (j .programs) ps (same-programs text (o .slots) (o .«reloc_count») ps (all-counted text o k) (k .programs)) before in
       rows-tables j z s _ _ (2 + o .«map_count» + o .«program_count») (symtab-long text o k) declared

@@ -1,5 +1,5 @@
--- What measuring finds, by the definitions of the object: each section's header, in order behind header 0, how many there are, where they
--- stand, and how long the object is.
+-- What measuring finds, by the definitions of the object: each section's header, in order after header 0, how many there are, where they
+-- are, and how long the object is.
 use mathlib.Core.Path.{_≡_}
 use mathlib.Core.Bool.{cond}
 use lib.Dec.{eqb}
@@ -39,15 +39,15 @@ abbrev pub behindAll : List Program → ℕ → ℕ
 behindAll [] at = at
 behindAll (p ∷ ps) at = behindAll ps (behind (p .relocs) at)
 
--- header 0 alone: the sections begin behind the file header, and the names behind the table's first zero byte
+-- header 0 alone: the sections begin after the file header, and the names after the table's first zero byte
 abbrev pub begun : Measuring
 begun = record { count = 1; end = 64; names = 1 }
 
--- a section without link, info and entry size, behind those that are there
+-- a section without link, info and entry size, after those that are there
 abbrev pub plainOn : Measuring → ℕ → ℕ → ℕ → ℕ → code.Section
 plainOn m kind flags align size = plainAt (m .names) kind flags (m .end) align size
 
--- what stands before the programs' sections: the licence, and `.maps` and `.BTF` where there are maps
+-- what is before the programs' sections: the licence, and `.maps` and `.BTF` if there are maps
 abbrev pub licenceAt : Sizes → code.Section
 licenceAt z = plainOn begun 1 3 1 (z .license + 1)
 
@@ -72,7 +72,7 @@ front z maps = cond (eqb maps 0) (licensed z) (mapped z)
 abbrev pub frontRows : Sizes → ℕ → List code.Section
 frontRows z maps = nullSection ∷ licenceAt z ∷ cond (eqb maps 0) [] (mapsAt z ∷ btfAt z ∷ [])
 
--- a program's section, and its REL section where it has relocations
+-- a program's section, and its REL section if it has relocations
 abbrev pub codeAt : Measuring → Program → code.Section
 codeAt m p = plainOn m 1 6 8 (p .«code_len»)
 
@@ -97,14 +97,14 @@ abbrev pub programRows : Measuring → ℕ → List Program → List code.Sectio
 programRows m symtab [] = []
 programRows m symtab (p ∷ ps) = programRow m symtab p ++ programRows (programmed m symtab p) symtab ps
 
--- the same, where the first program's section has the number `first` and the symbol table stands behind the last one's
+-- the same: the first program's section has the number `first`, and the symbol table follows the last one's
 abbrev pub afterDeclared : Measuring → ℕ → List Program → Measuring
 afterDeclared m first ps = afterPrograms m (behindAll ps first) ps
 
 abbrev pub declaredRows : Measuring → ℕ → List Program → List code.Section
 declaredRows m first ps = programRows m (behindAll ps first) ps
 
--- the three tables behind the programs' sections
+-- the three tables after the programs' sections
 abbrev pub symtabAt : Measuring → ℕ → code.Section
 symtabAt m symbols =
     record { name = m .names; «sh_type» = 2; flags = 0; at = alignTo 8 (m .end); size = 24 * symbols; link = m .count + 1; info = 1; align = 8; entsize = 24 }
@@ -144,25 +144,25 @@ sectionOf h =
       entsize = h .entry;
     }
 
--- the three tables that stand behind the sections that the job asks for
+-- the three tables after the sections that the job asks for
 abbrev pub tableSections : Job → List Section
 tableSections j =
     symbolSection (suc (length (declaredSections j))) (addStrings emptyTable (map (λ s. s .name) (symbols j)) .places) (symbols j)
     ∷ tableSection (ascii ".strtab") (strtabOf j) ∷ tableSection (ascii ".shstrtab") (shstrtabOf j) ∷ []
 
--- the headers of sections that stand from `end` on, the first of whose names is at `names`
+-- the headers of sections that begin at `end`, the first of whose names is at `names`
 abbrev pub rowsFrom : ℕ → ℕ → List Section → List code.Section
 rowsFrom names end [] = []
 rowsFrom names end (s ∷ ss) = sectionOf (headerFor names (place end s) s) ∷ rowsFrom (names + suc (length (s .name))) (after end s) ss
 
--- all sections, and their headers behind header 0
+-- all sections, and their headers after header 0
 abbrev pub sectionsOf : Job → List Section
 sectionsOf j = declaredSections j ++ tableSections j
 
 abbrev pub rowsOf : Job → List code.Section
 rowsOf j = nullSection ∷ rowsFrom 1 64 (sectionsOf j)
 
--- what measuring answers: how many headers there are, where they stand in the file, how long the names of the sections are, and how long the
+-- what measuring answers: how many headers there are, where they are in the file, how long the names of the sections are, and how long the
 -- file is
 abbrev pub measuredOf : Job → Measured
 measuredOf j =

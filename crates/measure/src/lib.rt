@@ -1,5 +1,5 @@
-// Measuring: the headers of the object's sections, with place, size and all else that a header has, into a lent table; how many there are,
-// and how long the object is. Nothing of the output is needed for it. The order is that of the writers.
+// Measuring: puts the headers of the object's sections into a lent table, counts them, and finds how long the object is. It does not need
+// the output. The sections are in the order of the writers.
 ghost use mathlib.Core.Path.{_≡_};
 ghost use mathlib.Core.List.{[], _∷_};
 ghost use Prim.Native.Nat.{ℕ, suc, _+_, _*_, _≤_, _<_, _^_};
@@ -11,11 +11,14 @@ ghost use Rattle.object.specs.Read.{jobIn};
 ghost use Rattle.object.specs.Kept.{Kept};
 ghost use Rattle.elf.specs.Headers.{headersBytes};
 ghost use Rattle.measure.specs.Measured.{withSection, plainAt, plainOn, relAt, behindAll, begun, Low, ShortNames, front, frontRows, programmed, programRow, afterPrograms, programRows, afterDeclared, declaredRows, tabled, tableRows, rowsOf, measuredOf, SizesOf, Small};
+use elf::FileHeader;
+use elf::Rel;
 use elf::Section;
+use elf::Symbol;
 use object::BpfObject;
 use object::Program;
 
-// How many bytes the sections take whose contents are not counted in the tables themselves.
+// How many bytes the sections take whose lengths are not in the tables.
 pub struct Sizes {
     pub license: usize,
     pub maps: usize,
@@ -23,12 +26,17 @@ pub struct Sizes {
     pub strtab: usize,
 }
 
-// How many headers there are, header 0 counted; where the header table stands; how long the sections' names are; and the object's length.
+// How many headers there are, header 0 counted; where the header table is; how long the sections' names are; and the object's length.
 pub struct Measured {
     pub count: usize,
     pub at: u64,
     pub names: usize,
     pub len: usize,
+}
+
+impl Measured {
+    // How many bytes the headers of the most sections take: header 0, licence, `.maps`, `.BTF`, two for each program, and the three tables.
+    pub const TABLE: usize = (Section::AFTER_BTF + 2 * BpfObject::PROGRAMS + 3) * Section::SIZE;
 }
 
 // The sections so far: their number, header 0 counted, where they end, and how long their names are.
@@ -38,7 +46,12 @@ struct Measuring {
     names: usize,
 }
 
-// One section more, whose name has `name` bytes: its header goes behind those that are there.
+impl Measuring {
+    // What `.shstrtab` takes for its own name, with the zero byte.
+    const OWN_NAME: usize = Section::SHSTRTAB_NAME_LEN + 1;
+}
+
+// One section more, whose name has `name` bytes: its header goes after those that are there.
 fn add_section(table: &mut [u8], m: Measuring, section: Section, name: usize) -> Measuring
     requires { ⌜ (m .count < 71) × (length (now table) ≡ 4544) ⌝ }
     requires { ⌜ section .at + section .size < 2 ^ 64 ⌝ }
@@ -46,8 +59,8 @@ fn add_section(table: &mut [u8], m: Measuring, section: Section, name: usize) ->
     ensures { λ _. ⌜ now (table .exit) ≡ over (now (table .entry)) (64 * m .count) (headersBytes (section ∷ [])) ⌝ }
     ensures { λ r. ⌜ r ≡ withSection m section name ⌝ }
 {
-    let row = 64 * m.count;
-    section.put(&mut table[row..row + 64]);
+    let row = Section::SIZE * m.count;
+    section.put(&mut table[row..row + Section::SIZE]);
     Measuring {
         count: m.count + 1,
         end: section.at + section.size,
@@ -55,7 +68,7 @@ fn add_section(table: &mut [u8], m: Measuring, section: Section, name: usize) ->
     }
 }
 
-// A section without link, info and entry size, behind those that end at `end`.
+// A section without link, info and entry size, after those that end at `end`.
 fn plain(name: usize, sh_type: u32, flags: u64, end: u64, align: u64, size: usize) -> Section
     requires { ⌜ name < 2 ^ 32 ⌝ }
     requires { ⌜ Alignment align ⌝ }
@@ -76,29 +89,29 @@ fn plain(name: usize, sh_type: u32, flags: u64, end: u64, align: u64, size: usiz
     }
 }
 
-// The REL section of the program of section `number`, behind those that end at `end`.
+// The REL section of the program of section `number`, after those that end at `end`.
 fn rel(name: usize, end: u64, relocs: u16, symtab: usize, number: usize) -> Section
     requires { ⌜ name < 2 ^ 32 ⌝ }
     requires { ⌜ end + 8 < 2 ^ 64 ⌝ }
     requires { ⌜ (symtab < 2 ^ 32) × (number < 2 ^ 32) ⌝ }
     ensures { λ r. ⌜ r ≡ relAt name end relocs symtab number ⌝ }
 {
-    let at = elf::align_to(end, 8);
+    let at = elf::align_to(end, Section::ALIGN_DOUBLE);
     Section {
         name: name as u32,
         sh_type: Section::SHT_REL,
         flags: 0,
         at,
-        size: 16 * (relocs as u64),
+        size: Rel::SIZE as u64 * (relocs as u64),
         link: symtab as u32,
         info: number as u32,
-        align: 8,
-        entsize: 16,
+        align: Section::ALIGN_DOUBLE,
+        entsize: Rel::SIZE as u64,
     }
 }
 
-// The number of the section behind all programs' sections.
-fn number_behind(first: usize, programs: [Program; 32], count: usize) -> usize
+// The number of the section after all programs' sections.
+fn number_behind(first: usize, programs: [Program; BpfObject::PROGRAMS], count: usize) -> usize
     requires { ⌜ (first ≤ 4) × (count ≤ 32) × (length programs ≡ 32) ⌝ }
     ensures { λ r. ⌜ r ≡ behindAll (take count programs) first ⌝ }
     ensures { λ r. ⌜ r ≤ 68 ⌝ }
@@ -119,15 +132,15 @@ fn begin(table: &mut [u8]) -> Measuring
     ensures { λ _. ⌜ now (table .exit) ≡ over (now (table .entry)) 0 (headersBytes (nullSection ∷ [])) ⌝ }
     ensures { λ r. ⌜ r ≡ begun ⌝ }
 {
-    Section::null().put(&mut table[0..64]);
+    Section::null().put(&mut table[0..Section::SIZE]);
     Measuring {
         count: 1,
-        end: 64,
-        names: 1,
+        end: FileHeader::SIZE as u64,
+        names: Section::LICENSE_NAME_AT,
     }
 }
 
-// A program's section, and its REL section where it has relocations; `symtab` is the number of the symbol table's section.
+// A program's section, and its REL section if it has relocations; `symtab` is the number of the symbol table's section.
 fn measure_program(table: &mut [u8], m: Measuring, program: Program, symtab: usize) -> Measuring
     requires { ⌜ Low 68 m ⌝ }
     requires { ⌜ length (now table) ≡ 4544 ⌝ }
@@ -141,9 +154,9 @@ fn measure_program(table: &mut [u8], m: Measuring, program: Program, symtab: usi
     let code = plain(
         m.names,
         Section::SHT_PROGBITS,
-        6,
+        Section::EXECUTABLE,
         m.end,
-        8,
+        Section::ALIGN_DOUBLE,
         program.code_len as usize,
     );
     let coded = add_section(table, m, code, len);
@@ -151,14 +164,14 @@ fn measure_program(table: &mut [u8], m: Measuring, program: Program, symtab: usi
         return coded;
     }
     let entries = rel(coded.names, coded.end, relocs, symtab, m.count);
-    add_section(table, coded, entries, len + 4)
+    add_section(table, coded, entries, len + Section::REL_NAME_LEN)
 }
 
 // The programs' sections.
 fn measure_programs(
     table: &mut [u8],
     start: Measuring,
-    programs: [Program; 32],
+    programs: [Program; BpfObject::PROGRAMS],
     count: usize,
     symtab: usize,
 ) -> Measuring
@@ -180,8 +193,8 @@ fn measure_programs(
     m
 }
 
-// The sections of the object's programs, the first of which has the number `first`. With no program no table is handed on, since a function has
-// a copy of a table that it is handed.
+// The sections of the object's programs, the first of which has the number `first`. With no program, no table is passed on, since a table
+// that is passed is copied.
 fn measure_declared(
     table: &mut [u8],
     start: Measuring,
@@ -205,7 +218,7 @@ fn measure_declared(
     measure_programs(table, start, programs, count, symtab)
 }
 
-// A section without link, info and entry size more, whose name has `name` bytes.
+// One more section without link, info and entry size, whose name has `name` bytes.
 fn add_plain(
     table: &mut [u8],
     m: Measuring,
@@ -226,7 +239,7 @@ fn add_plain(
     add_section(table, m, section, name)
 }
 
-// What stands before the programs' sections: the licence, and `.maps` and `.BTF` where there are maps.
+// What is before the programs' sections: the licence, and `.maps` and `.BTF` if there are maps.
 fn measure_front(table: &mut [u8], sizes: Sizes, maps: usize) -> Measuring
     requires { ⌜ Small sizes ⌝ }
     requires { ⌜ length (now table) ≡ 4544 ⌝ }
@@ -237,20 +250,36 @@ fn measure_front(table: &mut [u8], sizes: Sizes, maps: usize) -> Measuring
     let licensed = add_plain(
         table,
         null,
-        7,
+        Section::LICENSE_NAME_LEN,
         Section::SHT_PROGBITS,
-        3,
-        1,
+        Section::WRITABLE,
+        Section::ALIGN_BYTE,
         sizes.license + 1,
     );
     if maps == 0 {
         return licensed;
     }
-    let with_maps = add_plain(table, licensed, 5, Section::SHT_PROGBITS, 3, 8, sizes.maps);
-    add_plain(table, with_maps, 4, Section::SHT_PROGBITS, 0, 4, sizes.btf)
+    let with_maps = add_plain(
+        table,
+        licensed,
+        Section::MAPS_NAME_LEN,
+        Section::SHT_PROGBITS,
+        Section::WRITABLE,
+        Section::ALIGN_DOUBLE,
+        sizes.maps,
+    );
+    add_plain(
+        table,
+        with_maps,
+        Section::BTF_NAME_LEN,
+        Section::SHT_PROGBITS,
+        0,
+        Section::ALIGN_WORD,
+        sizes.btf,
+    )
 }
 
-// The three tables behind the programs' sections: `.symtab`, `.strtab` and `.shstrtab`, which holds its own name too.
+// The three tables after the programs' sections: `.symtab`, `.strtab` and `.shstrtab`, which holds its own name too.
 fn measure_tables(table: &mut [u8], m: Measuring, symbols: usize, strtab: usize) -> Measuring
     requires { ⌜ Low 68 m ⌝ }
     requires { ⌜ length (now table) ≡ 4544 ⌝ }
@@ -259,26 +288,30 @@ fn measure_tables(table: &mut [u8], m: Measuring, symbols: usize, strtab: usize)
     ensures { λ _. ⌜ now (table .exit) ≡ over (now (table .entry)) (64 * m .count) (headersBytes (tableRows m symbols strtab)) ⌝ }
     ensures { λ r. ⌜ r ≡ tabled m symbols strtab ⌝ }
 {
-    let at = elf::align_to(m.end, 8);
+    let at = elf::align_to(m.end, Section::ALIGN_DOUBLE);
     let symtab = Section {
         name: m.names as u32,
         sh_type: Section::SHT_SYMTAB,
         flags: 0,
         at,
-        size: 24 * (symbols as u64),
+        size: Symbol::SIZE as u64 * (symbols as u64),
         link: (m.count + 1) as u32,
-        info: 1,
-        align: 8,
-        entsize: 24,
+        info: Symbol::LICENSE,
+        align: Section::ALIGN_DOUBLE,
+        entsize: Symbol::SIZE as u64,
     };
-    let with_symbols = add_section(table, m, symtab, 7);
-    let with_strings = add_plain(table, with_symbols, 7, Section::SHT_STRTAB, 0, 1, strtab);
-    let size = with_strings.names + 10;
-    add_plain(table, with_strings, 9, Section::SHT_STRTAB, 0, 1, size)
+    let with_symbols = add_section(table, m, symtab, Section::SYMTAB_NAME_LEN);
+    let kind = Section::SHT_STRTAB;
+    let align = Section::ALIGN_BYTE;
+    let name = Section::STRTAB_NAME_LEN;
+    let with_strings = add_plain(table, with_symbols, name, kind, 0, align, strtab);
+    let own = Section::SHSTRTAB_NAME_LEN;
+    let size = with_strings.names + Measuring::OWN_NAME;
+    add_plain(table, with_strings, own, kind, 0, align, size)
 }
 
-// The object of the tables, measured, and the headers of its sections at the front of `table`. The text is that of which the tables are;
-// the sizes are those of its sections.
+// Measures the object, and puts the headers of its sections at the front of `table`. `object` has the tables of `text`, and `sizes` the
+// sizes of its sections.
 pub fn measure(text: &[u8], table: &mut [u8], object: BpfObject, sizes: Sizes) -> Measured
     requires { ⌜ Kept (now text) object ⌝ }
     requires { ⌜ SizesOf (jobIn (now text) object) sizes ⌝ }
@@ -293,12 +326,17 @@ pub fn measure(text: &[u8], table: &mut [u8], object: BpfObject, sizes: Sizes) -
     let first = strtab::first_program(maps);
     let before = measure_front(table, sizes, maps);
     let declared = measure_declared(table, before, object, first);
-    let whole = measure_tables(table, declared, 2 + maps + count, sizes.strtab);
-    let at = elf::align_to(whole.end, 8);
+    let whole = measure_tables(
+        table,
+        declared,
+        Symbol::FIRST_MAP + maps + count,
+        sizes.strtab,
+    );
+    let at = elf::align_to(whole.end, Section::ALIGN_DOUBLE);
     Measured {
         count: whole.count,
         at,
         names: whole.names,
-        len: at as usize + 64 * whole.count,
+        len: at as usize + Section::SIZE * whole.count,
     }
 }

@@ -57,7 +57,7 @@ ahead-within s n room w = record { at = w .at; strings = w .strings; next = w .n
 
 -- ---- stages
 
--- `d` with `whole` written over it from `start` on: so far it is `out`, the next member goes by `s`, and `rest` is still to come
+-- `d` with `whole` written over it from `start` on: so far it is `out`, the next member goes where `s` says, and `rest` is still to come
 pub record Row (d : List ℕ) (start : ℕ) (whole out : List ℕ) (s : Members) (rest : List ℕ) (n k : ℕ) : Type 0 where
   pub going : Going d start whole out (s .builder .at) rest
   pub strings : s .builder .strings + n < 2 ^ 32

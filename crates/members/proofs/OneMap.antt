@@ -1,4 +1,4 @@
--- One map's types, as the pieces come to them: attributes, the struct and the variable. Each law is eight cases, for a key, a value and a
+-- One map's types, as its pieces make them: attributes, the struct and the variable. Each law has eight cases, for a key, a value and a
 -- number of entries that are there or not.
 use mathlib.Core.Path.{_≡_, refl, sym, _∙_, ap}
 use mathlib.Core.List.{List, [], _∷_, _++_}
@@ -111,7 +111,7 @@ room-case kind (Present t) Absent (count.Present n) = omega arith
 room-case kind (Present t) (Present u) count.Absent = omega arith
 room-case kind (Present t) (Present u) (count.Present n) = omega arith
 
--- ---- the same of a declaration as it stands in a table
+-- ---- the same for a declaration in a table
 
 pub attrs-end : (b : BtfBuilder) (d : MapDecl) → AttrsEnd b d
 attrs-end b d = attrs-case b (d .«map_type») (d .«key_type») (d .«value_type») (d .«max_entries»)
@@ -127,7 +127,7 @@ abbrev pub asMap : MapDecl → List ℕ → Map
 asMap d name = record { name = name; kind = d .«map_type»; key = d .«key_type»; value = d .«value_type»; entries = d .«max_entries» }
 
 module _ (b : BtfBuilder) (d : MapDecl) (name : List ℕ) where
-  -- the variable's bytes behind the struct
+  -- the variable's bytes after the struct
   abbrev pub varPiece : List ℕ
   varPiece = typeBytes (structEnd b d .strings ∷ []) (var [] (attributes (b .«next_type_id») (asMap d name) .next))
 

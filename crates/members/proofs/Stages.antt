@@ -1,5 +1,5 @@
--- Pieces that a builder puts one behind the other: what a writer of several types goes by. A stage says which bytes are still to come, and
--- that so many bytes of strings and so many ids more are within what fits.
+-- Pieces that a builder puts one after the other: for writers of several types. A stage says which bytes are still to come, and that so
+-- many more bytes of strings and so many more ids fit.
 use mathlib.Core.Path.{_≡_}
 use mathlib.Core.List.{List, [], _++_}
 use Prim.Native.Nat.{ℕ, _+_, _^_, _≤_, _<_}

@@ -1,4 +1,4 @@
--- The types of one map's attributes, piece by piece: the bytes of each, and where the builder stands behind them. An attribute that nobody
+-- The types of one map's attributes, piece by piece: the bytes of each, and where the builder is after them. An attribute that nobody
 -- declared has none, and leaves the builder where it is.
 use mathlib.Core.List.{List, [], _++_}
 use Prim.Native.Nat.{ℕ}
@@ -33,7 +33,7 @@ abbrev pub countAttrPassed : CountAttr → BtfBuilder → BtfBuilder
 countAttrPassed count.Absent b = b
 countAttrPassed (count.Present n) b = passed b 36 2
 
--- the builder behind the type, the key and the value of a declaration
+-- the builder after the type, the key and the value of a declaration
 abbrev pub valuePassed : BtfBuilder → MapDecl → BtfBuilder
 valuePassed b d = typeAttrPassed (d .«value_type») (typeAttrPassed (d .«key_type») (passed b 36 2))
 

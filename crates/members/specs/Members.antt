@@ -1,5 +1,5 @@
--- The members of one map's struct, piece by piece: the bytes of each, and what the next one goes by. An attribute that nobody declared has
--- no member, so the positions are those among the attributes that are there.
+-- The members of one map's struct, piece by piece: the bytes of each, and the state for the next one. An attribute that nobody declared has
+-- no member, so only the declared attributes are counted as positions.
 use mathlib.Core.List.{List, [], _∷_, _++_}
 use Prim.Native.Nat.{ℕ, _+_, _*_, _/_, _^_, _≤_, _<_}
 use Rattle.ast.specs.declared.MapDecl.{MapDecl}
@@ -14,7 +14,7 @@ use Rattle.btf.specs.Builder.{words, passed, membered}
 use Rattle.members.specs.declared.Members.{Members}
 use Rattle.members.specs.Attributes.{attrsBytes, attrsPassed}
 
--- `n` bytes of members are within the memory, and so many bytes of names and `k` members more are within what fits
+-- `n` more bytes of members are within the memory, and with `names` more bytes of names and `k` more members all numbers fit
 pub record Ahead (s : Members) (n names k room : ℕ) : Type 0 where
   pub at : s .builder .at + n ≤ room
   pub strings : s .builder .strings + names < 2 ^ 32
@@ -26,7 +26,7 @@ pub record Ahead (s : Members) (n names k room : ℕ) : Type 0 where
 abbrev pub memberWords : Members → ℕ → List ℕ
 memberWords s id = words (s .builder .strings ∷ id ∷ 64 * s .position ∷ [])
 
--- behind a member whose name takes `n` bytes and whose attribute has `k` types
+-- after a member whose name takes `n` bytes and whose attribute has `k` types
 abbrev pub membersOn : Members → ℕ → ℕ → Members
 membersOn s n k = record { builder = membered (s .builder) n; position = s .position + 1; id = s .id + k }
 
@@ -50,7 +50,7 @@ abbrev pub countMembered : CountAttr → Members → Members
 countMembered count.Absent s = s
 countMembered (count.Present n) s = membersOn s 12 2
 
--- behind `type`, behind `key` and behind `value`, which take 5, 4 and 6 bytes
+-- after `type`, after `key` and after `value`, which take 5, 4 and 6 bytes
 abbrev pub typeDone : Members → Members
 typeDone s = membersOn s 5 2
 
@@ -75,7 +75,7 @@ membersBytes s d =
 abbrev pub declRoom : MapDecl → ℕ
 declRoom d = mapRoom (d .«key_type») (d .«value_type») (d .«max_entries»)
 
--- the first member, of a struct that begins at `b`, and whose attributes' types begin at `id`
+-- the first member of a struct that begins at `b` and whose attributes' types begin at `id`
 abbrev pub firstMember : BtfBuilder → ℕ → Members
 firstMember b id = record { builder = passed b 12 1; position = 0; id = id }
 

@@ -31,7 +31,7 @@ abbrev pub typesOf : ℕ → List Map → List BtfType
 typesOf next [] = []
 typesOf next (m ∷ ms) = oneMap next m ++ typesOf (attributes next m .next + 2) ms
 
--- the builder behind one map and behind several
+-- the builder after one map and after several
 abbrev pub mapBuilt : BtfBuilder → Map → BtfBuilder
 mapBuilt b m =
     let ts = oneMap (b .«next_type_id») m in
@@ -45,7 +45,7 @@ abbrev pub mapsBuilt : BtfBuilder → List Map → BtfBuilder
 mapsBuilt b [] = b
 mapsBuilt b (m ∷ ms) = mapsBuilt (mapBuilt b m) ms
 
--- the builder behind the five ints
+-- the builder after the five ints
 abbrev pub intsBuilt : BtfBuilder
 intsBuilt = record { at = 80; strings = 21; «next_type_id» = 6 }
 
@@ -60,7 +60,7 @@ abbrev pub countIds : CountAttr → ℕ
 countIds count.Absent = 0
 countIds (count.Present n) = 2
 
--- the id of a map's struct, where the map's types begin at `next`; the variable's follows it
+-- the id of a map's struct, if the map's types begin at `next`; the variable's follows it
 abbrev pub structId : ℕ → MapDecl → ℕ
 structId next d =
     attributes next (record { name = []; kind = d .«map_type»; key = d .«key_type»; value = d .«value_type»; entries = d .«max_entries» }) .next

@@ -1,4 +1,4 @@
--- The strings of a job's maps, as the section's string table has them: each with its zero byte, and an equal one again each time.
+-- The strings of a job's maps, as the string table of `.BTF` has them: each with its zero byte, and an equal one is written again.
 use mathlib.Core.List.{List, [], _∷_, _++_}
 use Prim.Native.Nat.{ℕ}
 use Rattle.octets.specs.Octets.{ascii}
@@ -9,7 +9,7 @@ use Rattle.ast.specs.declared.TypeAttr.the-variants as type
 use Rattle.ast.specs.declared.CountAttr.{CountAttr}
 use Rattle.ast.specs.declared.CountAttr.the-variants as count
 
--- the name of an attribute; nothing for one that is absent
+-- the name of an attribute; nothing if it is absent
 abbrev pub typeName : TypeAttr → List ℕ → List ℕ
 typeName type.Absent s = []
 typeName (type.Present t) s = s ++ (0 ∷ [])

@@ -1,4 +1,4 @@
-// The types of one map: those of its attributes, as far as they are there, and the struct that names them.
+// The types of one map: those of its declared attributes, and the struct that names them.
 ghost use mathlib.Core.Path.{_≡_};
 ghost use Prim.Native.Nat.{_+_, _^_, _<_};
 ghost use lib.ListN.{length};
@@ -12,16 +12,17 @@ use ast::MapDecl;
 use ast::Type;
 use ast::TypeAttr;
 use btf::BtfBuilder;
+use btf::BtfIntIds;
 
-// The id of a key's or a value's type: the ints are the first five types, and `int` is the first of them.
+// The id of a key's or a value's type.
 fn btf_type_for_source_type(ty: Type) -> u32
     ensures { λ r. ⌜ r ≡ typeId ty ⌝ }
 {
     match ty {
-        Type::U32 => 2,
-        Type::U64 => 3,
-        Type::I32 => 4,
-        Type::I64 => 5,
+        Type::U32 => BtfIntIds::U32,
+        Type::U64 => BtfIntIds::U64,
+        Type::I32 => BtfIntIds::I32,
+        Type::I64 => BtfIntIds::I64,
     }
 }
 
@@ -32,11 +33,11 @@ fn add_number(b: BtfBuilder, out: &mut [u8], n: u32) -> BtfBuilder
     ensures { λ r. ⌜ r ≡ passed b 36 2 ⌝ }
 {
     let id = b.next_type_id;
-    let next = b.add_array(out, 1, 1, n);
+    let next = b.add_array(out, BtfIntIds::INT, BtfIntIds::INT, n);
     next.add_ptr(out, id)
 }
 
-// A key's or a value's type, as a pointer to it; nothing for one that is absent.
+// A key's or a value's type, as a pointer to it; nothing if it is absent.
 fn add_type_attr(b: BtfBuilder, out: &mut [u8], attr: TypeAttr) -> BtfBuilder
     requires { ⌜ Within (passed b (length (typeAttrBytes attr)) 1) (length (now out)) ⌝ }
     ensures { λ _. ⌜ now (out .exit) ≡ over (now (out .entry)) (b .at) (typeAttrBytes attr) ⌝ }
@@ -48,7 +49,7 @@ fn add_type_attr(b: BtfBuilder, out: &mut [u8], attr: TypeAttr) -> BtfBuilder
     }
 }
 
-// The number of entries; nothing where it is absent.
+// The number of entries; nothing if it is absent.
 fn add_count_attr(b: BtfBuilder, out: &mut [u8], attr: CountAttr) -> BtfBuilder
     requires { ⌜ Within (passed b (length (countAttrBytes attr (b .«next_type_id»))) 2) (length (now out)) ⌝ }
     ensures { λ _. ⌜ now (out .exit) ≡ over (now (out .entry)) (b .at) (countAttrBytes attr (b .«next_type_id»)) ⌝ }
@@ -95,11 +96,11 @@ fn add_number_member(s: Members, out: &mut [u8], name: usize) -> Members
     Members {
         builder: builder.add_member(out, name, id + 1, position),
         position: position + 1,
-        id: id + 2,
+        id: id + BtfBuilder::NUMBER_IDS,
     }
 }
 
-// A key's or a value's member; nothing for one that is absent.
+// A key's or a value's member; nothing if it is absent.
 fn add_type_member(s: Members, out: &mut [u8], attr: TypeAttr, name: usize) -> Members
     requires { ⌜ Ahead s (length (typeMember attr s)) (name + 1) 1 (length (now out)) ⌝ }
     ensures { λ _. ⌜ now (out .exit) ≡ over (now (out .entry)) (s .builder .at) (typeMember attr s) ⌝ }
@@ -120,7 +121,7 @@ fn add_type_member(s: Members, out: &mut [u8], attr: TypeAttr, name: usize) -> M
     }
 }
 
-// The member `max_entries`; nothing where it is absent.
+// The member `max_entries`; nothing if it is absent.
 fn add_count_member(s: Members, out: &mut [u8], attr: CountAttr) -> Members
     requires { ⌜ Ahead s (length (countMember attr s)) 12 1 (length (now out)) ⌝ }
     ensures { λ _. ⌜ now (out .exit) ≡ over (now (out .entry)) (s .builder .at) (countMember attr s) ⌝ }
@@ -128,11 +129,11 @@ fn add_count_member(s: Members, out: &mut [u8], attr: CountAttr) -> Members
 {
     match attr {
         CountAttr::Absent => s,
-        CountAttr::Present(_) => add_number_member(s, out, 11),
+        CountAttr::Present(_) => add_number_member(s, out, BtfBuilder::MAX_ENTRIES_NAME_LEN),
     }
 }
 
-// The members `type`, `key`, `value` and `max_entries`, as far as they are there.
+// The members `type`, `key`, `value` and `max_entries`, as far as they are declared.
 fn add_members(s: Members, out: &mut [u8], map: MapDecl) -> Members
     requires { ⌜ Ahead s (length (membersBytes s map)) 27 4 (length (now out)) ⌝ }
     ensures { λ _. ⌜ now (out .exit) ≡ over (now (out .entry)) (s .builder .at) (membersBytes s map) ⌝ }
@@ -141,9 +142,9 @@ fn add_members(s: Members, out: &mut [u8], map: MapDecl) -> Members
     let key = map.key_type;
     let value = map.value_type;
     let entries = map.max_entries;
-    let with_type = add_number_member(s, out, 4);
-    let with_key = add_type_member(with_type, out, key, 3);
-    let with_value = add_type_member(with_key, out, value, 5);
+    let with_type = add_number_member(s, out, BtfBuilder::TYPE_NAME_LEN);
+    let with_key = add_type_member(with_type, out, key, BtfBuilder::KEY_NAME_LEN);
+    let with_value = add_type_member(with_key, out, value, BtfBuilder::VALUE_NAME_LEN);
     add_count_member(with_value, out, entries)
 }
 
@@ -156,7 +157,7 @@ fn add_map_struct(b: BtfBuilder, out: &mut [u8], map: MapDecl, first: u32) -> Bt
 {
     let size = btf::btf_map_size(map);
     let begun = Members {
-        builder: b.add_struct(out, size / 8),
+        builder: b.add_struct(out, size / BtfBuilder::ROOM),
         position: 0,
         id: first,
     };

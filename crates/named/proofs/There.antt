@@ -1,4 +1,4 @@
--- The tables of an accepted job from some map or program on: what a loop over them goes by.
+-- The tables of an accepted job from some map or program on: for loops over them.
 use mathlib.Core.Path.{_≡_, refl, sym, _∙_, ap}
 use mathlib.Core.List.{List, [], _∷_}
 use Prim.Native.Nat.{ℕ, zero, suc, _+_, _≤_, _<_}
@@ -28,7 +28,7 @@ next-map text (d ∷ ds) (a ∷ ats) [] (suc n) i h p q r = absurd (omega arith)
 next-map text (d ∷ ds) (a ∷ ats) (l ∷ lens) (suc n) zero h p q r = refl
 next-map text (d ∷ ds) (a ∷ ats) (l ∷ lens) (suc n) (suc i) h p q r = next-map text ds ats lens n i (omega arith) (omega arith) (omega arith) (omega arith)
 
--- the map at `i`, and those behind it
+-- the map at `i`, and those after it
 pub maps-from : (text : List ℕ) (ds : List MapDecl) (ats lens : List ℕ) (n i : ℕ) → MapsThere text ds ats lens n → i < n
     → drop i (mapsIn text (take n ds) (take n ats) (take n lens))
     ≡ mapIn text (getD ds i noMap) (getD ats i 0) (getD lens i 0) ∷ drop (i + 1) (mapsIn text (take n ds) (take n ats) (take n lens))
@@ -36,7 +36,7 @@ maps-from text ds ats lens n i m h =
     rw (add-one i)
     (next-map text ds ats lens n i h (omega (arith, m .names .few, m .decls-long)) (omega (arith, m .names .few, m .names .ats-long)) (omega (arith, m .names .few, m .names .lens-long)))
 
--- no map is behind the last
+-- no map is after the last
 pub maps-end : (text : List ℕ) (ds : List MapDecl) (ats lens : List ℕ) (n i : ℕ) → n ≤ i → drop i (mapsIn text (take n ds) (take n ats) (take n lens)) ≡ []
 maps-end text ds ats lens zero zero h = refl
 maps-end text ds ats lens zero (suc i) h = refl
@@ -54,7 +54,7 @@ kept-maps text o k =
       decls-long = s .maps;
     }
 
--- the same of the places that are lent
+-- the same for the places that are lent
 pub lent-maps : {text : List ℕ} {o : BpfObject} {ats lens : List ℕ} → Lent text o ats lens → MapsThere text (o .maps) ats lens (o .«map_count»)
 lent-maps {text} {o} l = rw (l .ats-are, l .lens-are) (kept-maps text o (l .kept))
 
@@ -67,7 +67,7 @@ next-program text slots [] (suc n) i h p = absurd (omega arith)
 next-program text slots (q ∷ ps) (suc n) zero h p = refl
 next-program text slots (q ∷ ps) (suc n) (suc i) h p = next-program text slots ps n i (omega arith) (omega arith)
 
--- the program at `i`, and those behind it
+-- the program at `i`, and those after it
 pub programs-from : (text : List ℕ) (slots : List Slot) (ps : List Program) (n i : ℕ) → n ≤ length ps → i < n
     → drop i (programsIn text slots (take n ps)) ≡ programIn text slots (getD ps i noProgram) ∷ drop (i + 1) (programsIn text slots (take n ps))
 programs-from text slots ps n i p h = rw (add-one i) (next-program text slots ps n i h p)

@@ -1,4 +1,4 @@
--- What is known of the maps' tables of an accepted job: the tables are whole, and each map's name stands in the text.
+-- What is known of the maps' tables of an accepted job: the tables are whole, and each map's name is in the text.
 use mathlib.Core.Path.{_≡_}
 use mathlib.Core.List.{List}
 use Prim.Native.Nat.{ℕ, _≤_, _<_}

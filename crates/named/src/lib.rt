@@ -1,5 +1,5 @@
-// Names, which stand in the job's text in hexadecimal, into lent memory: as they are, or as they are written. A name is written at a place,
-// and the place behind it is answered, so that a row of names is a row of calls.
+// Puts names, which are hexadecimal in the job's text, into lent memory: raw, or as they are written. Each function returns the place after
+// the name, so that a row of names is a row of calls.
 ghost use mathlib.Core.Path.{_≡_};
 ghost use mathlib.Core.List.{[], _∷_, _++_};
 ghost use Prim.Native.Nat.{_+_, _≤_};
@@ -9,8 +9,9 @@ ghost use Rattle.written.specs.Written.{written};
 ghost use Rattle.object.specs.Read.{nameIn};
 ghost use Rattle.object.specs.Kept.{Named};
 use ast::Name;
+use written::Unnamed;
 
-// The bytes of a name, over what stands at `at`.
+// The bytes of a name, over what is at `at`.
 pub fn put_name(out: &mut [u8], at: usize, text: &[u8], name: Name) -> usize
     requires { ⌜ Named (now text) name ⌝ }
     requires { ⌜ at + name .len ≤ length (now out) ⌝ }
@@ -23,19 +24,19 @@ pub fn put_name(out: &mut [u8], at: usize, text: &[u8], name: Name) -> usize
     at + n
 }
 
-// How long the written name is, by its bytes: what the name of other characters than ASCII asks for.
+// How long the written name is, by its bytes. Only a name that is not all ASCII needs this.
 fn decoded_size(text: &[u8], name: Name) -> usize
     requires { ⌜ Named (now text) name ⌝ }
     ensures { λ r. ⌜ r ≡ length (written (nameIn (now (text .entry)) name)) ⌝ }
     ensures { λ r. ⌜ r ≤ 64 ⌝ }
 {
-    let mut raw = [0u8; 64];
+    let mut raw = [0u8; Name::LONGEST];
     let n = name.len as usize;
     put_name(&mut raw, 0, text, name);
     written::written_len(&raw[0..n])
 }
 
-// How long the written name is. A name of ASCII alone has as many characters as bytes, and its digits tell that it is one.
+// How long the written name is. A name of ASCII alone has as many characters as bytes, and its digits tell that it is ASCII.
 pub fn written_size(text: &[u8], name: Name) -> usize
     requires { ⌜ Named (now text) name ⌝ }
     ensures { λ r. ⌜ r ≡ length (written (nameIn (now (text .entry)) name)) ⌝ }
@@ -45,21 +46,21 @@ pub fn written_size(text: &[u8], name: Name) -> usize
     let bytes = name.len as usize;
     if utf8::is_ascii(&text[start..start + 2 * bytes]) {
         if bytes == 0 {
-            return 14;
+            return Unnamed::LEN;
         }
         return bytes;
     }
     decoded_size(text, name)
 }
 
-// The written name with its zero byte, over what stands at `at`.
+// The written name with its zero byte, over what is at `at`.
 pub fn put_written(out: &mut [u8], at: usize, text: &[u8], name: Name) -> usize
     requires { ⌜ Named (now text) name ⌝ }
     requires { ⌜ at + length (written (nameIn (now text) name)) + 1 ≤ length (now out) ⌝ }
     ensures { λ _. ⌜ now (out .exit) ≡ over (now (out .entry)) at (written (nameIn (now (text .entry)) name) ++ (0 ∷ [])) ⌝ }
     ensures { λ r. ⌜ r ≡ at + length (written (nameIn (now (text .entry)) name) ++ (0 ∷ [])) ⌝ }
 {
-    let mut bytes = [0u8; 64];
+    let mut bytes = [0u8; Name::LONGEST];
     let len = name.len as usize;
     put_name(&mut bytes, 0, text, name);
     let m = written::written_len(&bytes[0..len]);
@@ -69,7 +70,7 @@ pub fn put_written(out: &mut [u8], at: usize, text: &[u8], name: Name) -> usize
     end + 1
 }
 
-// A string of the format's own with its zero byte, over what stands at `at`.
+// A string of the format's own with its zero byte, over what is at `at`.
 pub fn put_string_at(out: &mut [u8], at: usize, s: &[u8]) -> usize
     requires { ⌜ at + length (now s) + 1 ≤ length (now out) ⌝ }
     ensures { λ _. ⌜ now (out .exit) ≡ over (now (out .entry)) at (now (s .entry) ++ (0 ∷ [])) ⌝ }

@@ -1,5 +1,5 @@
--- How many sections, symbols and bytes of relocations an object has, exactly: the numbers that the definitions count with are those of the
--- rows that they make. And a relocation's map has a number below the count of maps.
+-- How many sections, symbols and bytes of relocations an object has, exactly: the counts of the definitions are the lengths of the rows
+-- that they make. And a relocation's map has a number below the count of maps.
 use mathlib.Core.Path.{_≡_, refl, ap}
 use mathlib.Core.Bool.{Bool, true, false}
 use mathlib.Core.Option.{Option, none, some}
@@ -30,35 +30,35 @@ pub first-near : (ms : List Map) → firstProgram ms ≤ 4
 first-near [] = omega arith
 first-near (m ∷ ms) = omega arith
 
-count-rel : (ms : List Map) (symtab at : ℕ) (name : List ℕ) (rs : List Relocation)
-    → at + suc (length (relSections ms symtab at name rs)) ≡ past rs at
-count-rel ms symtab at name [] = omega arith
-count-rel ms symtab at name (r ∷ rs) = omega arith
+count-rel : (symtab at : ℕ) (name : List ℕ) (rs : List Relocation)
+    → at + suc (length (relSections symtab at name rs)) ≡ past rs at
+count-rel symtab at name [] = omega arith
+count-rel symtab at name (r ∷ rs) = omega arith
 
-count-programs : (ms : List Map) (symtab at : ℕ) (ps : List Program) → at + length (programSections ms symtab at ps) ≡ pastAll ps at
-count-programs ms symtab at [] = omega arith
-count-programs ms symtab at (p ∷ ps) =
+count-programs : (symtab at : ℕ) (ps : List Program) → at + length (programSections symtab at ps) ≡ pastAll ps at
+count-programs symtab at [] = omega arith
+count-programs symtab at (p ∷ ps) =
     omega (
       arith,
-      length-append (relSections ms symtab at (p .section) (p .relocations)) (programSections ms symtab (past (p .relocations) at) ps),
-      count-rel ms symtab at (p .section) (p .relocations),
-      count-programs ms symtab (past (p .relocations) at) ps,
+      length-append (relSections symtab at (p .section) (p .relocations)) (programSections symtab (past (p .relocations) at) ps),
+      count-rel symtab at (p .section) (p .relocations),
+      count-programs symtab (past (p .relocations) at) ps,
     )
 
 count-maps : (ms : List Map) → 2 + length (mapSections ms) ≡ firstProgram ms
 count-maps [] = refl
 count-maps (m ∷ ms) = refl
 
--- `.symtab` follows the sections that the job asks for, of which section 0 is none
+-- `.symtab` follows the sections that the job asks for; section 0 is not one of them
 pub symtab-number : (j : Job) → suc (length (declaredSections j)) ≡ pastAll (j .programs) (firstProgram (j .maps))
 symtab-number j =
     let first = firstProgram (j .maps) in
-    let later = programSections (j .maps) (pastAll (j .programs) first) first (j .programs) in
+    let later = programSections (pastAll (j .programs) first) first (j .programs) in
     omega (
       arith,
       length-append (mapSections (j .maps)) later,
       count-maps (j .maps),
-      count-programs (j .maps) (pastAll (j .programs) first) first (j .programs),
+      count-programs (pastAll (j .programs) first) first (j .programs),
     )
 
 -- ---- symbols
@@ -83,9 +83,9 @@ count-symbols j =
 
 -- ---- relocations
 
-pub length-relocations : (ms : List Map) (rs : List Relocation) → length (relocationBytes ms rs) ≡ 16 * length rs
-length-relocations ms [] = refl
-length-relocations ms (r ∷ rs) = omega (arith, length-relocations ms rs)
+pub length-relocations : (rs : List Relocation) → length (relocationBytes rs) ≡ 16 * length rs
+length-relocations [] = refl
+length-relocations (r ∷ rs) = omega (arith, length-relocations rs)
 
 -- ---- maps
 

@@ -1,4 +1,4 @@
--- A name that stands in the text: its part of the text, its bytes and how many they are.
+-- A name in the text: its part of the text, its bytes and how many they are.
 use mathlib.Core.Path.{_≡_, ap}
 use mathlib.Core.Bool.{true}
 use mathlib.Core.List.{List}

@@ -1,14 +1,13 @@
 -- Programs and their relocations read from the tables, by one line, one slot or one program more.
-use mathlib.Core.Path.{_≡_, refl, sym, _∙_, ap}
+use mathlib.Core.Path.{_≡_, refl, sym, ap}
 use mathlib.Core.Bool.{true}
 use mathlib.Core.List.{List, [], _∷_, _++_, append-assoc, append-nil}
 use Prim.Native.Nat.{ℕ, zero, suc, _+_, _-_, _≤_, _<_}
 use native.Mathlib.Omega.{arith}
-use lib.ListN.{length, take, drop, set, length-append, length-drop}
+use lib.ListN.{length, take, drop, set, length-drop}
 use lib.Seq.{take-suc-set, take-set-le, drop-set-add}
 use Rattle.lines.specs.Lines.{Line, frameBytes}
 use Rattle.lines.specs.Hex.{there}
-use Rattle.ast.specs.Job.{Relocation}
 use Rattle.ast.specs.Job as job
 use Rattle.object.specs.declared.Slot.{Slot}
 use Rattle.object.specs.declared.Program.{Program}
@@ -17,7 +16,7 @@ use Rattle.object.specs.Kept.{AllFrames, ProgramKept, AllKept}
 
 -- ---- lists
 
--- one element more, where it comes next
+-- one element more, if it comes next
 pub take-next : {A : Type 0} (l : List A) (n : ℕ) (a : A) (rest : List A) → drop n l ≡ a ∷ rest → take (suc n) l ≡ take n l ++ (a ∷ [])
 take-next [] zero a rest e = let z : _≡_ {A = ℕ} 0 1 = cc in absurd (omega arith)
 take-next [] (suc n) a rest e = let z : _≡_ {A = ℕ} 0 1 = cc in absurd (omega arith)
@@ -30,7 +29,7 @@ drop-next [] (suc n) a rest e = let z : _≡_ {A = ℕ} 0 1 = cc in absurd (omeg
 drop-next (x ∷ xs) zero a rest e = cc
 drop-next (x ∷ xs) (suc n) a rest e = drop-next xs n a rest e
 
--- a slot behind a part, and the part with it
+-- a slot after a part, and the part with it
 part-kept : (l : List Slot) (a k n : ℕ) (v : Slot) → a + k ≤ n → take k (drop a (set l n v)) ≡ take k (drop a l)
 part-kept l a k n v h =
     let e : n ≡ a + (n - a) = omega arith in
@@ -52,9 +51,10 @@ pub frames-snoc : (ls : List Line) (l : Line) → AllFrames ls → there (frameB
 frames-snoc [] l k e = (e, tt)
 frames-snoc (m ∷ ls) l k e = (k .0, frames-snoc ls l (k .1) e)
 
-pub relocations-snoc : (text : List ℕ) (ss : List Slot) (s : Slot) → relocationsIn text (ss ++ (s ∷ [])) ≡ relocationsIn text ss ++ (slotIn text s ∷ [])
-relocations-snoc text [] s = refl
-relocations-snoc text (r ∷ ss) s = ap (λ (x : List Relocation). slotIn text r ∷ x) (relocations-snoc text ss s)
+pub relocations-snoc : (text : List ℕ) (ss : List Slot) (s : Slot) → relocationsIn text (ss ++ (s ∷ [])) ≡ relocationsIn text ss ++ slotIn text s
+relocations-snoc text [] s = append-nil (slotIn text s)
+relocations-snoc text (r ∷ ss) s =
+    rw (relocations-snoc text ss s) (sym (append-assoc (slotIn text r) (relocationsIn text ss) (slotIn text s)))
 
 -- ---- programs
 
@@ -67,7 +67,7 @@ pub programs-length : (text : List ℕ) (slots : List Slot) (ps : List Program) 
 programs-length text slots [] = refl
 programs-length text slots (p ∷ ps) = ap suc (programs-length text slots ps)
 
--- a slot behind those of all programs changes none of them
+-- a slot after those of all programs changes none of them
 pub programs-kept : (text : List ℕ) (slots : List Slot) (n : ℕ) (v : Slot) (ps : List Program) → AllKept text n ps
     → programsIn text (set slots n v) ps ≡ programsIn text slots ps
 programs-kept text slots n v [] k = refl

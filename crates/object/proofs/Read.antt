@@ -36,7 +36,7 @@ maps-snoc text (e ∷ ds) (b ∷ ats) [] d a l p q = absurd (omega arith)
 maps-snoc text (e ∷ ds) (b ∷ ats) (m ∷ lens) d a l p q =
     ap (λ (ms : List Map). mapIn text e b m ∷ ms) (maps-snoc text ds ats lens d a l (omega arith) (omega arith))
 
--- one more of the maps that stand in the tables
+-- one more of the maps in the tables
 pub maps-more : (text : List ℕ) (ds : List MapDecl) (ats lens : List ℕ) (n : ℕ) → n < length ds → n < length ats → n < length lens
     → mapsIn text (take (suc n) ds) (take (suc n) ats) (take (suc n) lens)
     ≡ mapsIn text (take n ds) (take n ats) (take n lens) ++ (mapIn text (getD ds n noMap) (getD ats n 0) (getD lens n 0) ∷ [])
@@ -46,7 +46,7 @@ maps-more text ds ats lens n p q r =
     let l = length-take-le n lens (omega arith) in
     rw (take-suc ds n noMap p, take-suc ats n 0 q, take-suc lens n 0 r) (maps-snoc text (take n ds) (take n ats) (take n lens) _ _ _ (a ∙ sym d) (l ∙ sym d))
 
--- a map put behind them
+-- a map put after them
 pub maps-set : (text : List ℕ) (ds : List MapDecl) (ats lens : List ℕ) (n : ℕ) (d : MapDecl) (a l : ℕ) → n < length ds → n < length ats → n < length lens
     → mapsIn text (take (suc n) (set ds n d)) (take (suc n) (set ats n a)) (take (suc n) (set lens n l))
     ≡ mapsIn text (take n ds) (take n ats) (take n lens) ++ (mapIn text d a l ∷ [])

@@ -1,4 +1,4 @@
--- What is known of the tables of an accepted job: every place lies in the text and holds what the tables say.
+-- What is known of the tables of an accepted job: every place is in the text and has what the tables say.
 use mathlib.Core.Path.{_≡_}
 use mathlib.Core.Bool.{true}
 use mathlib.Core.Option.{some}
@@ -20,7 +20,7 @@ use Rattle.object.specs.declared.BpfObject.{BpfObject}
 use Rattle.object.specs.Tables.{emptySlot, Sound}
 use Rattle.object.specs.Read.{bytesAt, nameIn, codeOf, body, declaredMaps}
 
--- a name lies in the text, is hexadecimal and UTF-8, and has at most 64 bytes
+-- a name is in the text, is hexadecimal and UTF-8, and has at most 64 bytes
 pub record Named (text : List ℕ) (n : Name) : Type 0 where
   pub inside : n .at + 2 * n .len ≤ length text
   pub hex : isHex (take (2 * n .len) (drop (n .at) text)) ≡ true
@@ -31,7 +31,7 @@ abbrev pub LicenceNamed : List ℕ → License → Type 0
 LicenceNamed text Gpl = Unit
 LicenceNamed text (Text n) = Named text n
 
--- a relocation's offset and name lie in the text, and its map is the last of that name
+-- a relocation's offset and name are in the text, and its map is the last of that name
 pub record Resolved (text : List ℕ) (ms : List Map) (place len number : ℕ) : Type 0 where
   pub inside : place + 16 + 2 * len ≤ length text
   pub hex : isHex (take 16 (drop place text)) ≡ true

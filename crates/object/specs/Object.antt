@@ -1,11 +1,10 @@
 -- The object of a job: which sections it has, in which order, and what each holds.
-use mathlib.Core.Option.{Option, none, some}
 use mathlib.Core.List.{List, [], _∷_, _++_, map}
 use Prim.Native.Nat.{ℕ, suc, _+_}
 use lib.ListN.{length}
 use Rattle.octets.specs.Octets.{zeros, ascii}
 use Rattle.written.specs.Written.{written}
-use Rattle.ast.specs.Job.{Map, Relocation, Program, Job, lastMap}
+use Rattle.ast.specs.Job.{Map, Relocation, Program, Job}
 use Rattle.elf.specs.Strings.{addStrings, emptyTable}
 use Rattle.elf.specs.Elf.{Section, Symbol, file, symbolInfo, symbolsBytes, relBytes}
 use Rattle.btf.specs.Btf.{btfBytes}
@@ -27,18 +26,15 @@ mapSections (m ∷ ms) =
     plain (ascii ".maps") 3 8 (zeros (mapTypes 6 0 (m ∷ ms) .size))
     ∷ plain (ascii ".BTF") 0 4 (btfBytes (btfTypes (m ∷ ms))) ∷ []
 
--- maps' symbols follow the null symbol and LICENSE. In an accepted job every relocation's map is declared.
-abbrev pub mapSymbol : List Map → List ℕ → ℕ
-mapSymbol ms name = elim (lastMap name ms) [ none ↦ 0 | some k ↦ 2 + k ]
-
-abbrev pub relocationBytes : List Map → List Relocation → List ℕ
-relocationBytes ms [] = []
-relocationBytes ms (r ∷ rs) = relBytes (r .offset) (mapSymbol ms (r .map)) ++ relocationBytes ms rs
+-- a relocation names its map's symbol; the maps' symbols follow the null symbol and LICENSE
+abbrev pub relocationBytes : List Relocation → List ℕ
+relocationBytes [] = []
+relocationBytes (r ∷ rs) = relBytes (r .offset) (2 + r .number) ++ relocationBytes rs
 
 -- a program's REL section, of the program's section `at`; a program with no relocation has none
-abbrev pub relSections : List Map → ℕ → ℕ → List ℕ → List Relocation → List Section
-relSections ms symtab at name [] = []
-relSections ms symtab at name (r ∷ rs) =
+abbrev pub relSections : ℕ → ℕ → List ℕ → List Relocation → List Section
+relSections symtab at name [] = []
+relSections symtab at name (r ∷ rs) =
     record {
       name = ascii ".rel" ++ name;
       kind = 9;
@@ -47,7 +43,7 @@ relSections ms symtab at name (r ∷ rs) =
       entry = 16;
       link = symtab;
       info = at;
-      contents = relocationBytes ms (r ∷ rs);
+      contents = relocationBytes (r ∷ rs);
     } ∷ []
 
 -- the number after a program's sections, which begin at `at`
@@ -55,11 +51,11 @@ abbrev pub past : List Relocation → ℕ → ℕ
 past [] at = suc at
 past (r ∷ rs) at = suc (suc at)
 
-abbrev pub programSections : List Map → ℕ → ℕ → List Program → List Section
-programSections ms symtab at [] = []
-programSections ms symtab at (p ∷ ps) =
-    plain (p .section) 6 8 (p .code) ∷ relSections ms symtab at (p .section) (p .relocations)
-    ++ programSections ms symtab (past (p .relocations) at) ps
+abbrev pub programSections : ℕ → ℕ → List Program → List Section
+programSections symtab at [] = []
+programSections symtab at (p ∷ ps) =
+    plain (p .section) 6 8 (p .code) ∷ relSections symtab at (p .section) (p .relocations)
+    ++ programSections symtab (past (p .relocations) at) ps
 
 -- the number after all the programs' sections
 abbrev pub pastAll : List Program → ℕ → ℕ
@@ -100,13 +96,13 @@ abbrev pub declaredSections : Job → List Section
 declaredSections j =
     let first = firstProgram (j .maps) in
     licenseSection (j .licence)
-    ∷ mapSections (j .maps) ++ programSections (j .maps) (pastAll (j .programs) first) first (j .programs)
+    ∷ mapSections (j .maps) ++ programSections (pastAll (j .programs) first) first (j .programs)
 
 abbrev pub tableSection : List ℕ → List ℕ → Section
 tableSection name contents =
     record { name = name; kind = 3; flags = 0; align = 1; entry = 0; link = 0; info = 0; contents = contents }
 
--- `.symtab`, before whose names' table it stands, as section number `at`
+-- `.symtab`, as section number `at`; its names' table is the next section
 abbrev pub symbolSection : ℕ → List ℕ → List Symbol → Section
 symbolSection at names syms =
     record {

@@ -1,5 +1,5 @@
--- The tables of the code read as the job that they stand for. Every name, every byte of code and every offset is a function of the text
--- and a place, so that nothing that was read changes when the tables grow.
+-- The tables of the code, read as a job. Every name, every byte of code and every offset is a function of the text and a place, so that
+-- nothing that was read changes when the tables grow.
 use mathlib.Core.Option.{Option, none, some}
 use mathlib.Core.List.{List, [], _∷_, _++_, map}
 use Prim.Native.Nat.{ℕ, _+_, _*_}
@@ -20,7 +20,7 @@ use Rattle.object.specs.declared.Slot.{Slot}
 use Rattle.object.specs.declared.Program.{Program}
 use Rattle.object.specs.declared.BpfObject.{BpfObject}
 
--- the `n` bytes whose characters stand from `at` on
+-- the `n` bytes whose characters begin at `at`
 abbrev pub bytesAt : List ℕ → ℕ → ℕ → List ℕ
 bytesAt text at n = bytesIn (take (2 * n) (drop at text))
 
@@ -48,17 +48,22 @@ mapsIn text (d ∷ ds) [] lens = []
 mapsIn text (d ∷ ds) (a ∷ ats) [] = []
 mapsIn text (d ∷ ds) (a ∷ ats) (l ∷ lens) = mapIn text d a l ∷ mapsIn text ds ats lens
 
--- a relocation's offset has 8 bytes, and its map's name follows; an empty slot is none
-abbrev pub entryIn : List ℕ → Entry → ℕ → ℕ → Relocation
-entryIn text Empty place len = record { offset = 0; map = [] }
-entryIn text Taken place len = record { offset = value (bytesAt text place 8); map = bytesAt text (place + 16) len }
+-- the relocation whose offset, of 8 bytes, is at `place`, and after it the name of map `number`
+abbrev pub relocationAt : List ℕ → ℕ → ℕ → ℕ → Relocation
+relocationAt text place len number =
+    record { offset = value (bytesAt text place 8); map = bytesAt text (place + 16) len; number = number }
 
-abbrev pub slotIn : List ℕ → Slot → Relocation
-slotIn text s = entryIn text (s .entry) (s .place) (s .len)
+-- a slot that is taken gives one relocation, an empty one none
+abbrev pub entryIn : List ℕ → Entry → ℕ → ℕ → ℕ → List Relocation
+entryIn text Empty place len number = []
+entryIn text Taken place len number = relocationAt text place len number ∷ []
+
+abbrev pub slotIn : List ℕ → Slot → List Relocation
+slotIn text s = entryIn text (s .entry) (s .place) (s .len) (s .map)
 
 abbrev pub relocationsIn : List ℕ → List Slot → List Relocation
 relocationsIn text [] = []
-relocationsIn text (s ∷ ss) = slotIn text s ∷ relocationsIn text ss
+relocationsIn text (s ∷ ss) = slotIn text s ++ relocationsIn text ss
 
 -- the code that a line adds
 abbrev pub frameCode : Option Frame → List ℕ

@@ -1,10 +1,10 @@
 -- The tables of the code: as they are at the start, and after each step.
 use mathlib.Core.Path.{_≡_}
 use mathlib.Core.Bool.{cond}
-use mathlib.Core.List.{List}
-use Prim.Native.Nat.{ℕ, _+_, _≤_}
+use Prim.Native.Nat.{_+_, _≤_}
 use lib.ListN.{length, replicate, set}
 use lib.Dec.{ltb}
+use Rattle.octets.specs.Told.{Told, gives, refuses}
 use Rattle.ast.specs.declared.Name.{Name}
 use Rattle.ast.specs.declared.MapDecl.{MapDecl}
 use Rattle.ast.specs.declared.MapType.the-variants.{Hash}
@@ -15,6 +15,7 @@ use Rattle.object.specs.declared.Entry.the-variants.{Empty}
 use Rattle.object.specs.declared.Slot.{Slot}
 use Rattle.object.specs.declared.Program.{Program}
 use Rattle.object.specs.declared.BpfObject.{BpfObject}
+use Rattle.object.specs.declared.Adding.{Adding}
 use Rattle.object.specs.declared.Adding.the-variants.{Done, Full}
 use Rattle.object.specs.declared.Added.{Added}
 
@@ -31,7 +32,7 @@ noProgram =
 abbrev pub emptySlot : Slot
 emptySlot = record { entry = Empty; map = 0; place = 0; len = 0 }
 
--- no licence frame, no map, no program, 256 slots that are empty
+-- no licence frame, no map, no program, 256 empty slots
 abbrev pub emptyObject : BpfObject
 emptyObject =
     record {
@@ -46,7 +47,7 @@ emptyObject =
       «reloc_count» = 0;
     }
 
--- what every object keeps: its tables have their lengths, and it counts no more
+-- what every object keeps: its tables have their lengths, and its counts are within them
 pub record Sound (o : BpfObject) : Type 0 where
   pub maps : length (o .maps) ≡ 64
   pub ats : length (o .«map_at») ≡ 64
@@ -56,6 +57,11 @@ pub record Sound (o : BpfObject) : Type 0 where
   pub few-maps : o .«map_count» ≤ 64
   pub few-programs : o .«program_count» ≤ 32
   pub few-slots : o .«reloc_count» ≤ 256
+
+-- what a step says: a full table is refused 6
+abbrev pub addingTold : Adding → Told (Unit {0})
+addingTold Done = gives tt
+addingTold Full = refuses 6
 
 abbrev pub done : BpfObject → Added
 done o = record { answer = Done; object = o }

@@ -1,7 +1,9 @@
-// `BpfObject`: the tables of a job. Names, code and offsets stay in the job's text, and the tables hold their places. A table that is
-// full says so and stays as it is.
+// `BpfObject`: the tables of a job. Names, code and offsets stay in the job's text, and the tables hold their places. A full table says so
+// and stays as it is.
 ghost use mathlib.Core.Path.{_≡_};
-ghost use Rattle.object.specs.Tables.{noProgram, emptyObject, Sound, withLicense, addedMap, addedProgram};
+ghost use lib.Dec.{leb};
+ghost use Rattle.octets.specs.Told.{gives, toldIf};
+ghost use Rattle.object.specs.Tables.{noProgram, emptyObject, Sound, addingTold, withLicense, addedMap, addedProgram};
 use ast::CountAttr;
 use ast::MapDecl;
 use ast::MapType;
@@ -13,15 +15,15 @@ pub enum License {
     Text(Name),
 }
 
-// Whether a relocation stands in a slot.
+// Whether a slot has a relocation.
 pub enum Entry {
     Empty,
     Taken,
 }
 
-// A relocation: the number of its map, the place of its offset in the text, behind which the map's name stands, and how many bytes the name
-// has. The numbers stand beside the state and not in its case, so that an empty slot has every byte, and 256 of them are cleared in one
-// piece. In an empty slot they say nothing.
+// A relocation: the number of its map, the place of its offset in the text, and how many bytes the map's name has, which follows the
+// offset. The numbers are beside the state and not inside it, so that no byte of an empty slot is unset and 256 slots are cleared in one
+// piece. In an empty slot they mean nothing.
 pub struct Slot {
     pub entry: Entry,
     pub map: u8,
@@ -42,7 +44,7 @@ pub struct Program {
 }
 
 impl Program {
-    // No program: what stands in the table before one is added.
+    // No program: what is in the table before one is added.
     pub fn none() -> Self
         ensures { λ r. ⌜ r ≡ noProgram ⌝ }
     {
@@ -59,18 +61,18 @@ impl Program {
     }
 }
 
-// The names of the maps stand in two arrays of numbers beside their declarations, so that a lookup is lent them and copies nothing. A count
-// stands before its table, and no table next to the licence: then the compiler copies the tables apart from each other.
+// The names of the maps are in two arrays of numbers, apart from the declarations, so that a lookup borrows them and copies nothing. A
+// count is before its table, and no table is next to the licence: then the compiler copies each table by itself.
 pub struct BpfObject {
     pub license: License,
     pub map_count: usize,
-    pub maps: [MapDecl; 64],
-    pub map_at: [u16; 64],
-    pub map_len: [u16; 64],
+    pub maps: [MapDecl; BpfObject::MAPS],
+    pub map_at: [u16; BpfObject::MAPS],
+    pub map_len: [u16; BpfObject::MAPS],
     pub program_count: usize,
-    pub programs: [Program; 32],
+    pub programs: [Program; BpfObject::PROGRAMS],
     pub reloc_count: usize,
-    pub slots: [Slot; 256],
+    pub slots: [Slot; BpfObject::RELOCATIONS],
 }
 
 pub enum Adding {
@@ -109,13 +111,13 @@ impl BpfObject {
         };
         BpfObject {
             license: License::Gpl,
-            maps: [map; 64],
-            map_at: [0; 64],
-            map_len: [0; 64],
+            maps: [map; BpfObject::MAPS],
+            map_at: [0; BpfObject::MAPS],
+            map_len: [0; BpfObject::MAPS],
             map_count: 0,
-            programs: [program; 32],
+            programs: [program; BpfObject::PROGRAMS],
             program_count: 0,
-            slots: [empty; 256],
+            slots: [empty; BpfObject::RELOCATIONS],
             reloc_count: 0,
         }
     }
@@ -123,6 +125,7 @@ impl BpfObject {
     pub fn add_license(mut self, name: Name) -> Added
         requires { ⌜ Sound self ⌝ }
         ensures { λ r. ⌜ r ≡ withLicense self name ⌝ }
+        ensures { λ r. ⌜ addingTold (r .answer) ≡ gives tt ⌝ }
     {
         let maps = self.maps;
         let map_at = self.map_at;
@@ -145,10 +148,11 @@ impl BpfObject {
         }
     }
 
-    // A map that is added and a table that is full leave by the one end: a state that goes by value is copied for each end.
+    // One return serves both answers: the object goes by value, and each return would copy it.
     pub fn add_map(mut self, decl: MapDecl, name: Name) -> Added
         requires { ⌜ Sound self ⌝ }
         ensures { λ r. ⌜ r ≡ addedMap self decl name ⌝ }
+        ensures { λ r. ⌜ addingTold (r .answer) ≡ toldIf 6 (leb 64 (self .«map_count»)) ⌝ }
     {
         let n = self.map_count;
         let mut answer = Adding::Full;
@@ -165,10 +169,11 @@ impl BpfObject {
         }
     }
 
-    // There is one end here too, for the same reason.
+    // One return here too, for the same reason.
     pub fn add_program(mut self, program: Program) -> Added
         requires { ⌜ Sound self ⌝ }
         ensures { λ r. ⌜ r ≡ addedProgram self program ⌝ }
+        ensures { λ r. ⌜ addingTold (r .answer) ≡ toldIf 6 (leb 32 (self .«program_count»)) ⌝ }
     {
         let n = self.program_count;
         let mut answer = Adding::Full;

@@ -5,7 +5,8 @@ use native.Mathlib.Nat.{pow-suc, pow-le-pow-right}
 use native.Mathlib.Omega.{arith}
 use lib.ListN.{length, take, length-take}
 use Rattle.octets.specs.Octets.{le, value, cat}
-use Rattle.octets.proofs.Lists.{All, all-append, all-take}
+use Rattle.octets.specs.All.{All}
+use Rattle.octets.proofs.Lists.{all-append, all-take}
 
 abbrev pub Byte : ℕ → Type 0
 Byte b = b < 256

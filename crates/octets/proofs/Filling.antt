@@ -1,5 +1,5 @@
--- Lent memory that is filled from its front to its end, in pieces of any length: what a writer of a row goes by. A piece is written at a
--- place, and the place behind it is the next one.
+-- Lent memory that is filled from its front to its end, in pieces of any length: for writers of a row. A piece is written at a place, and
+-- the next one goes after it.
 use mathlib.Core.Path.{_≡_, refl, sym, _∙_, ap}
 use mathlib.Core.List.{List, [], _++_, append-assoc, append-nil}
 use Prim.Native.Nat.{ℕ, _+_, _-_, _≤_}

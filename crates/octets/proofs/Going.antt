@@ -1,4 +1,4 @@
--- A row of pieces written over what stands at a place of lent memory: what a loop keeps that writes somewhere within it.
+-- A row of pieces written over some place of lent memory: the invariant of a loop that writes there.
 use mathlib.Core.Path.{_≡_, refl, sym, _∙_, ap}
 use mathlib.Core.List.{List, [], _++_}
 use Prim.Native.Nat.{ℕ, _+_, _≤_}
@@ -11,8 +11,7 @@ pub over-nothing : (d : List ℕ) (at : ℕ) → over d at [] ≡ d
 unfolding over
 over-nothing d at = let e : at + 0 ≡ at = omega arith in rw e (take-append-drop at d)
 
--- `d` with `whole` written over it from `start` on is `out` with `rest` written over it from `at` on: what a loop keeps that writes a row
--- somewhere in lent memory
+-- `d` with `whole` written over it from `start` on is `out` with `rest` written over it from `at` on
 pub record Going (d : List ℕ) (start : ℕ) (whole out : List ℕ) (at : ℕ) (rest : List ℕ) : Type 0 where
   pub is : over out at rest ≡ over d start whole
   pub same : length out ≡ length d

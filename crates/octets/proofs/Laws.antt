@@ -1,6 +1,5 @@
--- What loops over bytes go by, and writers of fields in parts of lent memory.
--- A loop that writes keeps `whole ≡ take i out ++ rest`, where `rest` is what its definition says is still to come; a loop that
--- reads keeps `result ≡ f state (drop i s)`.
+-- Laws for loops over bytes, and for writers of fields in parts of lent memory. A loop that writes keeps `whole ≡ take i out ++ rest`,
+-- where `rest` is what is still to come by its definition. A loop that reads keeps `result ≡ f state (drop i s)`.
 use mathlib.Core.Path.{_≡_, refl, sym, _∙_, ap}
 use mathlib.Core.List.{List, [], _∷_, _++_, append-assoc, append-nil}
 use Prim.Native.Nat.{ℕ, zero, suc, _+_, _-_, _*_, _/_, _%_, _^_, _≤_, _<_, suc-le-suc}
@@ -34,7 +33,7 @@ write-on {more = more} out i x h w e = rw (add-one, take-suc-set out i x h, appe
 pub write-done : {whole rest : List ℕ} (out : List ℕ) (i : ℕ) → length out ≤ i → whole ≡ take i out ++ rest → rest ≡ [] → out ≡ whole
 write-done out i h w e = sym (w ∙ ap (λ (r : List ℕ). take i out ++ r) e ∙ rw (append-nil, take-all i out h))
 
--- ---- fields written one after the other into parts `&mut out[a..a + k]` of a list `d` of `n` bytes: what stands there after `a` bytes, `s`, is `w`
+-- ---- fields in parts `&mut out[a..a + k]` of a list `d` of `n` bytes, one after the other: `w` is `d` once its first `a` bytes are `s`
 
 pub record Run (d : List ℕ) (n : ℕ) (w s : List ℕ) (a : ℕ) : Type 0 where
   pub long : length d ≡ n

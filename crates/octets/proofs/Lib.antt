@@ -8,3 +8,4 @@ pub mod Bytes
 pub mod Tests
 pub mod Gather
 pub mod Single
+pub mod Told

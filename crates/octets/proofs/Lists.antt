@@ -1,14 +1,10 @@
--- A fact that holds of each member of a list. Rows of records, names and bytes are all bounded with this one word, so that a bound is
--- carried over an append, a part or a weaker bound by one law.
+-- A fact that holds of each member of a list, carried over an append, a part or a weaker fact.
 use mathlib.Core.Path.{_≡_}
 use mathlib.Core.List.{List, [], _∷_, _++_}
 use Prim.Native.Nat.{ℕ, zero, suc, _+_}
 use native.Mathlib.Nat.{zero-add, suc-add}
 use lib.ListN.{length, take, drop, getElem?}
-
-abbrev pub All {ℓ} : {A : Type ℓ} → (A → Type 0) → List A → Type 0
-All P [] = Unit {0}
-All P (x ∷ xs) = P x × All P xs
+use Rattle.octets.specs.All.{All}
 
 pub all-append {ℓ} : {A : Type ℓ} (P : A → Type 0) (xs ys : List A) → All P xs → All P ys → All P (xs ++ ys)
 all-append P [] ys f g = g
@@ -29,7 +25,7 @@ all-drop P zero xs f = f
 all-drop P (suc k) [] f = tt
 all-drop P (suc k) (x ∷ xs) f = all-drop P k xs (f .1)
 
--- the member at a number past those that stand before
+-- the member at a number past those of the first list
 pub get-add {ℓ} : {A : Type ℓ} (xs ys : List A) (n : ℕ) → getElem? (xs ++ ys) (length xs + n) ≡ getElem? ys n
 get-add [] ys n = rw zero-add
 get-add (x ∷ xs) ys n = rw suc-add (get-add xs ys n)

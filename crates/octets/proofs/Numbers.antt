@@ -1,4 +1,4 @@
--- Numbers as bytes, once over the width: how many bytes there are, what they give back, and how they split.
+-- Numbers as bytes, for every width: how many bytes there are, what they give back, and how they split.
 use mathlib.Core.Path.{_≡_, refl, sym, _∙_, ap}
 use mathlib.Core.List.{List, [], _∷_, _++_}
 use Prim.Native.Nat.{ℕ, zero, suc, _+_, _*_, _/_, _%_, _^_, _<_, suc-le-suc}

@@ -1,4 +1,4 @@
--- What loops go by that put a number together from its bytes, the highest first.
+-- Laws for loops that put a number together from its bytes, the highest first.
 use mathlib.Core.Path.{_≡_}
 use mathlib.Core.List.{List}
 use Prim.Native.Nat.{ℕ, suc, _≤_, _<_, _-_, _+_, _*_, _^_}
@@ -9,7 +9,7 @@ use lib.ListN.{length, drop, getD}
 use Rattle.octets.specs.Octets.{value}
 use Rattle.octets.proofs.Laws.{read-on}
 
--- where a byte is still to come, the number is below 2^56
+-- while a byte is still to come, the number is below 2^56
 pub small : (n i v : ℕ) → n ≤ 8 → 0 < i → v < 256 ^ (n - i) → v < 2 ^ 56
 small n i v h p q = let e : 256 ^ (n - i) ≤ 256 ^ 7 = pow-le-pow-right (lit< tt) {j = 7} (omega arith) in omega arith
 

@@ -1,6 +1,5 @@
--- Single outcomes: what a promise says leaves one result, and one string of bytes in lent memory. The theorems are over `Post`, the
--- promise that stands at the function in the source, so a weaker promise breaks them. Every crate above says its own with the two words
--- that stand first here.
+-- Single outcomes: what a promise says leaves one result, and one string of bytes in lent memory. The theorems are over `Post`, the promise
+-- at the function in the source, so a weaker promise breaks them. Every other crate states its own with the first two definitions here.
 use mathlib.Core.Path.{_≡_, sym, _∙_}
 use mathlib.Core.List.{List}
 use Prim.Native.Nat.{ℕ}
@@ -30,7 +29,7 @@ module _ {n : ℕ} (ps : List (PK n)) (r : RK n) (Post : Out n ps r) where
   OneResult =
       (κs : Lfts n) (a : Dens κs ps) (z z′ : resT r κs .Denot) (e e′ : AtExit (endedOf n ps r) κs) → Post κs a z e → Post κs a z′ e′ → z ≡ z′
 
-  -- and so are what two outcomes leave in lent memory, of which `at` picks the part that is meant
+  -- and two outcomes leave the same in the part of lent memory that `at` picks
   abbrev pub OneExit : ((κs : Lfts n) → AtExit (endedOf n ps r) κs → List ℕ) → Type 0
   OneExit at =
       (κs : Lfts n) (a : Dens κs ps) (z z′ : resT r κs .Denot) (e e′ : AtExit (endedOf n ps r) κs) → Post κs a z e → Post κs a z′ e′ → at κs e ≡ at κs e′

@@ -1,3 +1,5 @@
 pub mod Octets
 pub mod Fields
 pub mod Over
+pub mod Told
+pub mod All

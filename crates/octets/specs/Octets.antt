@@ -1,4 +1,4 @@
--- Bytes and numbers: the words in which every layer above says its fields. A byte is a number below 256, a string of bytes a list.
+-- Bytes and numbers: the words in which every other definition says its fields. A byte is a number below 256, a string of bytes a list.
 use mathlib.Core.Bool.{Bool, true, false, _&&_}
 use mathlib.Core.List.{List, [], _∷_, _++_}
 use Prim.Native.Nat.{ℕ, zero, suc, _+_, _*_, _/_, _%_}

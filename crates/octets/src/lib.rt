@@ -1,5 +1,5 @@
-// Numbers and bytes in lent memory: what every writer and reader above is made of. A function that writes fills the whole part
-// that it is lent, so that a caller says by the part's bounds which bytes change.
+// Numbers and bytes in lent memory, for every writer and reader. All writers but `put_at` fill the whole part that they are lent, so that a
+// caller says by the part's bounds which bytes change.
 ghost use mathlib.Core.Path.{_≡_};
 ghost use Prim.Native.Nat.{_+_, _^_, _≤_, _<_};
 ghost use lib.ListN.{length, take, drop};
@@ -84,7 +84,7 @@ pub fn same(a: &[u8], b: &[u8]) -> bool
     b.len() <= i
 }
 
-// `n` bytes of `v` over what stands at `at`.
+// `n` bytes of `v`, over what is at `at`.
 pub fn put_at(out: &mut [u8], at: usize, n: usize, v: u64)
     requires { ⌜ at + n ≤ length (now out) ⌝ }
     ensures { λ _. ⌜ now (out .exit) ≡ over (now (out .entry)) at (le n v) ⌝ }
@@ -92,8 +92,8 @@ pub fn put_at(out: &mut [u8], at: usize, n: usize, v: u64)
     put_le(&mut out[at..at + n], v);
 }
 
-// Fields one after the other, as wide as `widths` says, into a part of exactly their size. A record of fixed fields is written by
-// one call of this, and its promise then holds by computing.
+// Fields one after the other, as wide as `widths` says, into a part of exactly their size. A record of fixed fields is written by one call
+// of this; its promise then holds by computing.
 pub fn put_fields(out: &mut [u8], widths: &[u8], values: &[u64])
     requires { ⌜ length (now widths) ≡ length (now values) ⌝ }
     requires { ⌜ length (now out) ≡ total (now widths) ⌝ }

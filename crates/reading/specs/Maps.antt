@@ -27,7 +27,7 @@ pub record Var : Type 0 where
   pub typeId : ℕ
   pub offset : ℕ
 
--- a BTF type, as far as a rule looks at it, with what stands at its names' places in the strings
+-- a BTF type, as far as a rule looks at it, with what is at its names' places in the strings
 pub data BtfType : Type 0 where
   int : ℕ → ℕ → BtfType
   ptr : ℕ → BtfType
@@ -73,7 +73,7 @@ typesOf strs (suc n) d =
     typesOf strs n (drop (t .size) d) >>= λ ts.
     some (t .this ∷ ts))
 
--- document 01's BTF header, and the section is header, types and strings with nothing left
+-- the section is document 01's BTF header, types and strings, with nothing left over
 abbrev pub readBtf : List ℕ → Option (List BtfType)
 readBtf d =
     let types = field 4 d 12 in

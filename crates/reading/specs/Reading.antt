@@ -1,5 +1,5 @@
--- How a loader reads an object: rules L1 to L7 of document 01, the first that fails deciding. Nothing here names the writer or its layout. The rules know only
--- what the gABI and the BTF document say of a file's bytes.
+-- How a loader reads an object: rules L1 to L7 of document 01. The first that fails decides. Nothing here names the writer or its layout:
+-- the rules know only what the gABI and the BTF document say of a file's bytes.
 use mathlib.Core.Option.{Option, none, some}
 use mathlib.Core.List.{List, [], _∷_}
 use Prim.Native.Nat.{ℕ}

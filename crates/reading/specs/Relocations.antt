@@ -22,7 +22,7 @@ abbrev pub mapAt : ℕ → ℕ → List Mapped → Option ℕ
 mapAt i p [] = none
 mapAt i p (m ∷ ms) = cond (eqb (m .offset) p) (some i) (mapAt (suc i) p ms)
 
--- an entry: its place, and by the gABI the type in the low 32 bits of its info and the symbol's number above them
+-- an entry: its place, and its info, which by the gABI has the type in the low 32 bits and the symbol's number above them
 abbrev pub relocationOf : List Symbol → List Mapped → ℕ → List ℕ → Option Relocation
 relocationOf syms ms maps d =
     let info = field 8 d 8 in

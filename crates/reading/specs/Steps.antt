@@ -27,12 +27,12 @@ field k f p = value (take k (drop p f))
 abbrev pub part : List ℕ → ℕ → ℕ → List ℕ
 part f p n = take n (drop p f)
 
--- the bytes before the first zero byte; none where there is no zero byte
+-- the bytes before the first zero byte; none if there is no zero byte
 abbrev pub toZero : List ℕ → Option (List ℕ)
 toZero [] = none
 toZero (b ∷ bs) = cond (eqb b 0) (some []) (elim (toZero bs) [ none ↦ none | some s ↦ some (b ∷ s) ])
 
--- what stands at place `p` of a string table; none where no zero byte ends it
+-- what is at place `p` of a string table; none if no zero byte ends it
 abbrev pub textAt : List ℕ → ℕ → Option (List ℕ)
 textAt t p = toZero (drop p t)
 
@@ -51,7 +51,7 @@ abbrev pub keep {ℓ} : {A : Type ℓ} → (A → Bool) → List A → List A
 keep p [] = []
 keep p (a ∷ as′) = cond (p a) (a ∷ keep p as′) (keep p as′)
 
--- the first, where there is one
+-- the first, if there is one
 abbrev pub firstOf {ℓ} : {A : Type ℓ} → List A → Option A
 firstOf [] = none
 firstOf (a ∷ as′) = some a

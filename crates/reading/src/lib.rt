@@ -1,1 +1,1 @@
-// The reader of objects: rules L1 to L7 as definitions, without the writer. Its code comes with the request to read an object.
+// The reader of objects: rules L1 to L7 as definitions that do not know the writer. It has no code: so far nothing asks to read an object.

@@ -1,3 +1,4 @@
 pub mod WithinFrames
 pub mod Within
+pub mod Told
 pub mod Single

@@ -1,5 +1,6 @@
 -- What an accepted job is known to keep, in one record: names are texts of at most 64 bytes, counts are within document 01's limits,
--- numbers fit their fields, and every relocation's map is declared. It is proved once of `checked`; what is said of accepted jobs leans on it.
+-- numbers fit their fields, and every relocation has the number of the last map that is declared under its raw name. It is proved once, of
+-- `checked`; the theorems about accepted jobs use it.
 use mathlib.Core.Path.{_≡_, refl, ap, subst}
 use mathlib.Core.Bool.{Bool, true, false, cond, not, _||_}
 use mathlib.Core.Option.{Option, none, some}
@@ -9,16 +10,17 @@ use native.Mathlib.Omega.{arith}
 use lib.Dec.{eqb, leb, ltb}
 use lib.ListN.{length, length-append}
 use borrow.Author.Tests.{ltb-false, leb-false, eqb-false, not-false}
-use Rattle.octets.proofs.Lists.{All, all-append}
+use Rattle.octets.specs.All.{All}
+use Rattle.octets.proofs.Lists.{all-append}
 use Rattle.octets.proofs.Bytes.{Byte, Bytes}
 use Rattle.octets.proofs.Tests.{or-false-both}
 use Rattle.utf8.specs.Utf8.{hasZero, isText}
 use Rattle.written.proofs.Names.{Clean}
-use Rattle.ast.specs.Job.{Map, Relocation, Program, Job}
+use Rattle.ast.specs.Job.{Map, Relocation, Program, Job, lastMap}
 use Rattle.ast.specs.declared.CountAttr.the-variants as count
 use Rattle.lines.specs.Lines.{Line, lines, frameBytes}
 use Rattle.frames.specs.Frames.{Frame, licence, mapDecl, program, code, relocation, frameOf}
-use Rattle.refusals.specs.Checked.{Stage, empty, Reason, first, long, declares, reasons, onLast, withCode, withRelocation, advance, Step, went, stopped, takeFrame, takeBytes, takeLine, Checked, accepted, faulty, takeLines, checked}
+use Rattle.refusals.specs.Checked.{Stage, empty, Reason, first, long, reasons, onLast, withCode, withRelocation, Step, went, stopped, resolved, added, takeFrame, takeBytes, takeLine, Checked, accepted, faulty, takeLines, checked}
 use Rattle.refusals.proofs.WithinFrames.{Holds, LineBytes, line-bytes, total, lines-total, FitFrame, frame-fit}
 
 -- ---- the record
@@ -36,7 +38,7 @@ pub record MapWithin (m : Map) : Type 0 where
 pub record RelocationWithin (ms : List Map) (r : Relocation) : Type 0 where
   pub offset : r .offset < 2 ^ 64
   pub name : Name (r .map)
-  pub declared : declares ms (r .map) ≡ true
+  pub last : lastMap (r .map) ms ≡ some (r .number)
 
 pub record ProgramWithin (ms : List Map) (p : Program) : Type 0 where
   pub section : Name (p .section)
@@ -93,10 +95,10 @@ module _ (f : Program → Program) where
 
 -- ---- a frame that no reason refuses
 
-abbrev Fails : Reason → Type 0
+abbrev pub Fails : Reason → Type 0
 Fails r = r .holds ≡ false
 
-none-holds : (rs : List Reason) → first rs ≡ none → All Fails rs
+pub none-holds : (rs : List Reason) → first rs ≡ none → All Fails rs
 none-holds [] e = tt
 none-holds (r ∷ rs) e = go (r .holds) refl (none-holds rs)
   where
@@ -121,6 +123,11 @@ record Kept (used : ℕ) (s : Stage) : Type 0 where
   count : s .relocations ≡ relocationsIn (s .job .programs)
   code : 2 * codeIn (s .job .programs) ≤ used
 
+-- a step that goes on leads to such a stage
+abbrev GoodStep : ℕ → Step → Type 0
+GoodStep n (went s) = Kept n s
+GoodStep n (stopped k) = Unit {0}
+
 no-programs : (ms : List Map) (ps : List Program) → length ps ≤ 0 → All (ProgramWithin ms) ps
 no-programs ms [] l = tt
 no-programs ms (p ∷ ps) l = absurd (omega arith)
@@ -144,19 +151,20 @@ module _ (u n : ℕ) (few : u + n ≤ 65535) (s : Stage) (i : Kept u s) where
   abbrev ps : List Program
   ps = s .job .programs
 
-  -- other programs, with `c` bytes of code and `k` relocations more
+  -- other programs, with `m` relocations in all
   abbrev withPrograms : List Program → ℕ → Stage
-  withPrograms qs k =
+  withPrograms qs m =
       record {
         lines = suc (s .lines);
-        relocations = s .relocations + k;
+        relocations = m;
         job = record { licence = s .job .licence; maps = ms; programs = qs };
       }
 
-  grown : (qs : List Program) (c k : ℕ) → length qs ≤ 32 → All (ProgramWithin ms) qs → codeIn qs ≡ codeIn ps + c → 2 * c ≤ n
+  -- they have `c` bytes of code and `k` relocations more than those before
+  grown : (qs : List Program) (c k m : ℕ) → m ≡ s .relocations + k → length qs ≤ 32 → All (ProgramWithin ms) qs → codeIn qs ≡ codeIn ps + c → 2 * c ≤ n
       → relocationsIn qs ≡ relocationsIn ps + k → relocationsIn qs ≤ 256
-      → Kept (u + n) (withPrograms qs k)
-  grown qs c k l h d b e m =
+      → Kept (u + n) (withPrograms qs m)
+  grown qs c k m z l h d b e f =
       record {
         within =
             record {
@@ -166,24 +174,24 @@ module _ (u n : ℕ) (few : u + n ≤ 65535) (s : Stage) (i : Kept u s) where
               maps = w .maps;
               programCount = l;
               programs = h;
-              relocations = m;
+              relocations = f;
               code = omega (arith, i .code);
             };
         count = omega (arith, i .count);
         code = omega (arith, i .code);
       }
 
-  grown-last : (f : Program → Program) (c k : ℕ) → eqb (length ps) 0 ≡ false → ((p : Program) → ProgramWithin ms p → ProgramWithin ms (f p))
+  grown-last : (f : Program → Program) (c k m : ℕ) → m ≡ s .relocations + k → eqb (length ps) 0 ≡ false → ((p : Program) → ProgramWithin ms p → ProgramWithin ms (f p))
       → ((p : Program) → length (f p .code) ≡ length (p .code) + c) → 2 * c ≤ n
       → ((p : Program) → length (f p .relocations) ≡ length (p .relocations) + k) → relocationsIn ps + k ≤ 256
-      → Kept (u + n) (withPrograms (onLast f ps) k)
-  grown-last f c k e h d b g m =
+      → Kept (u + n) (withPrograms (onLast f ps) m)
+  grown-last f c k m z e h d b g q =
       let l = not-zero (length ps) e in
       let joined = last-relocations f k ps g l in
-      grown (onLast f ps) c k (omega (arith, last-count f ps, w .programCount)) (last-within f ms ps h (w .programs)) (last-code f c ps d l) b
+      grown (onLast f ps) c k m z (omega (arith, last-count f ps, w .programCount)) (last-within f ms ps h (w .programs)) (last-code f c ps d l) b
       joined (omega arith)
 
-  took : (f : Frame) → FitFrame n f → All Fails (reasons s f) → Kept (u + n) (advance f s)
+  took : (f : Frame) → FitFrame n f → All Fails (reasons s f) → GoodStep (u + n) (added s f)
   took (licence text) fit x =
       let (a, b) = or-false-both (not (isText text)) (hasZero text) (x .1 .0) in
       record {
@@ -227,7 +235,7 @@ module _ (u n : ℕ) (few : u + n ≤ 65535) (s : Stage) (i : Kept u s) where
       let (k, l) = or-false-both (leb 32 (length ps) || long section) (long symbol) (x .1 .0) in
       let (q, r) = or-false-both (leb 32 (length ps)) (long section) k in
       let joined = relocations-append ps (p ∷ []) in
-      grown (ps ++ (p ∷ [])) 0 0 (omega (arith, leb-false 32 (length ps) q, length-append ps (p ∷ [])))
+      grown (ps ++ (p ∷ [])) 0 0 (s .relocations) (omega arith) (omega (arith, leb-false 32 (length ps) q, length-append ps (p ∷ [])))
       (all-append (ProgramWithin ms) ps (p ∷ []) (w .programs) (
         record {
           section = name-of section (fit .0) g r;
@@ -241,7 +249,7 @@ module _ (u n : ℕ) (few : u + n ≤ 65535) (s : Stage) (i : Kept u s) where
       ))
       (code-append ps (p ∷ [])) (omega arith) joined (omega (arith, w .relocations))
   took (code bytes) fit x =
-      grown-last (withCode bytes) (length bytes) 0 (x .0)
+      grown-last (withCode bytes) (length bytes) 0 (s .relocations) (omega arith) (x .0)
       (λ p h. record {
         section = h .section;
         clean = h .clean;
@@ -251,33 +259,29 @@ module _ (u n : ℕ) (few : u + n ≤ 65535) (s : Stage) (i : Kept u s) where
         relocations = h .relocations;
       })
       (λ p. length-append (p .code) bytes) (fit .few) (λ p. omega arith) (omega (arith, w .relocations))
-  took (relocation offset name) fit x =
-      let r : Relocation = record { offset = offset; map = name } in
-      let (a, b) = or-false-both (leb 256 (s .relocations)) (long name) (x .1 .1 .0) in
-      grown-last (withRelocation r) 0 1 (x .0)
-      (λ p h. record {
-        section = h .section;
-        clean = h .clean;
-        nonempty = h .nonempty;
-        symbol = h .symbol;
-        code = h .code;
-        relocations =
-            all-append (RelocationWithin ms) (p .relocations) (r ∷ []) (h .relocations) (
-              record {
-                offset = fit .0;
-                name = name-of name (fit .1) (x .1 .0) b;
-                declared = not-false (declares ms name) (x .1 .1 .1 .0);
-              },
-              tt,
-            );
-      })
-      (λ p. omega arith) (omega arith) (λ p. length-append (p .relocations) (r ∷ [])) (omega (arith, i .count, leb-false 256 (s .relocations) a))
+  took (relocation offset name) fit x = go (lastMap name ms) refl
+    where
+      go : (o : Option ℕ) → lastMap name ms ≡ o → GoodStep (u + n) (resolved s offset name o)
+      go none e = tt
+      go (some number) e =
+          let r : Relocation = record { offset = offset; map = name; number = number } in
+          let (a, b) = or-false-both (leb 256 (s .relocations)) (long name) (x .1 .1 .0) in
+          grown-last (withRelocation r) 0 1 (s .relocations + 1) (omega arith) (x .0)
+          (λ p h. record {
+            section = h .section;
+            clean = h .clean;
+            nonempty = h .nonempty;
+            symbol = h .symbol;
+            code = h .code;
+            relocations =
+                all-append (RelocationWithin ms) (p .relocations) (r ∷ []) (h .relocations) (
+                  record { offset = fit .0; name = name-of name (fit .1) (x .1 .0) b; last = e },
+                  tt,
+                );
+          })
+          (λ p. omega arith) (omega arith) (λ p. length-append (p .relocations) (r ∷ [])) (omega (arith, i .count, leb-false 256 (s .relocations) a))
 
 -- ---- lines
-
-abbrev GoodStep : ℕ → Step → Type 0
-GoodStep n (went s) = Kept n s
-GoodStep n (stopped k) = Unit {0}
 
 abbrev GoodJob : Checked → Type 0
 GoodJob (accepted j) = Within j
@@ -287,7 +291,7 @@ module _ (u n : ℕ) (few : u + n ≤ 65535) (s : Stage) (i : Kept u s) where
   frame-good : (f : Frame) → FitFrame n f → GoodStep (u + n) (takeFrame s f)
   frame-good f fit = go (first (reasons s f)) refl
     where
-      go : (o : Option ℕ) → first (reasons s f) ≡ o → GoodStep (u + n) (elim o [ some k ↦ stopped k | none ↦ went (advance f s) ])
+      go : (o : Option ℕ) → first (reasons s f) ≡ o → GoodStep (u + n) (elim o [ some k ↦ stopped k | none ↦ added s f ])
       go none e = took u n few s i f fit (none-holds (reasons s f) e)
       go (some k) e = tt
 

@@ -1,5 +1,5 @@
--- What the lines of a text and the frames that they give are known to keep, before any limit is asked: bytes are below 256, numbers fit
--- their fields, and a frame of code has at most half as many bytes as its line has characters.
+-- What holds of the lines of a text and of their frames before any limit is tested: bytes are below 256, numbers fit their fields, and a
+-- frame of code has at most half as many bytes as its line has characters.
 use mathlib.Core.Path.{_≡_, refl}
 use mathlib.Core.Bool.{Bool, true, false, cond}
 use mathlib.Core.Option.{Option, none, some}
@@ -21,7 +21,7 @@ use Rattle.ast.specs.declared.CountAttr.the-variants as count
 use Rattle.lines.specs.Lines.{Line, before, lines, digit, pair, unhex, frameBytes}
 use Rattle.frames.specs.Frames.{Frame, licence, mapDecl, program, code, relocation, TypeRead, CountRead, bit, typeIf, countIf, mapAttrs, mapFrame, programFrame, relocationFrame, instructionFrame, frameOf}
 
--- what holds of a result, where there is one
+-- what holds of a result, if there is one
 abbrev pub Holds {ℓ} : {A : Type ℓ} → (A → Type 0) → Option A → Type 0
 Holds p none = Unit {0}
 Holds p (some a) = p a
@@ -157,12 +157,12 @@ relocation-fit n bs a =
     cond-holds (FitFrame n) (leb 8 (length bs)) (some (relocation (value (take 8 bs)) (drop 8 bs))) none
     (front-fits 8 bs a, all-drop Byte 8 bs a) tt
 
--- an instruction's bytes, `regs` the one of its registers
+-- an instruction's bytes; `regs` is the byte of its registers
 insn-bytes : (c regs off imm : ℕ) → Bytes (cat (le 1 c ∷ le 1 regs ∷ le 2 off ∷ le 4 imm ∷ []))
 insn-bytes c regs off imm =
     cat-bytes (le 1 c ∷ le 1 regs ∷ le 2 off ∷ le 4 imm ∷ []) (le-bytes 1 c, (le-bytes 1 regs, (le-bytes 2 off, (le-bytes 4 imm, tt))))
 
--- they stand in a line of twenty characters
+-- they come from a line of twenty characters
 instruction-fit : (n : ℕ) (bs : List ℕ) → 2 * length bs ≤ n → Holds (FitFrame n) (instructionFrame bs)
 instruction-fit n [] l = tt
 instruction-fit n (c ∷ []) l = tt

@@ -1,4 +1,4 @@
--- The code's refusals as document 01's table has them: the number, the line and the length needed of each case.
+-- The code's refusals in the words of document 01's table: the number, the line and the length needed of each case.
 use Prim.Native.Nat.{ℕ}
 use Rattle.refusals.specs.declared.Refusal.{Refusal}
 use Rattle.refusals.specs.declared.Refusal.the-variants.{TooLong, BadLine, BadFrame, Misplaced, BadText, OverLimit, UnknownMap, NoRoom}

@@ -1,10 +1,10 @@
-// Why a job is refused: the table of refusals, and the numbers, lines and lengths that its cases stand for.
+// Why a job is refused: the table of refusals, and the number, the line and the length of each case.
 ghost use mathlib.Core.Path.{_≡_};
 ghost use Prim.Native.Nat.{_-_};
 ghost use lib.ListN.{length};
 ghost use Rattle.refusals.specs.Refusal.{numberOf, lineOf, neededOf};
 
-// Why a job is refused: each case but the first and the last holds the number of its line, and the last the length needed.
+// Each case but the first and the last holds the number of its line; the last holds the length needed.
 pub enum Refusal {
     TooLong,
     BadLine(usize),
@@ -33,7 +33,7 @@ impl Refusal {
         }
     }
 
-    // The line that it is about, 0 where it is about none.
+    // The line that it is about, 0 if it is about none.
     pub fn line(self) -> usize
         ensures { λ r. ⌜ r ≡ lineOf self ⌝ }
     {

@@ -1,7 +1,7 @@
-// Replays the stored answers of the Rust, data/answers.list: each job's answer is held against the stored one, and the counts are
-// printed. An accepted job is tried in the room of 65,536 bytes, in just as much as its object takes, with one byte less and with none: the
-// last two are refused 8 with the length needed. Beyond the object, and after a refusal, the output is as it was. A record is four numbers of four bytes (length of the job, number of the refusal or 0, its line, length of the object), then
-// the job, then the object.
+// Replays the stored answers of the Rust, data/answers.list: compares each job's answer with the stored one and prints the counts. An
+// accepted job is tried with room for 65,536 bytes, with just the room that its object needs, with one byte less and with none. The last
+// two are refused 8 with the length needed. After the object, and after a refusal, the output is as it was. A record is four numbers of
+// four bytes (length of the job, number of the refusal or 0, its line, length of the object), then the job, then the object.
 use libc::STDOUT_FILENO;
 use maker::Making;
 use refusals::Refusal;
@@ -15,7 +15,7 @@ enum Shown {
     Refused,
 }
 
-// Whether lent bytes are still those that were there: every byte is 90 before a job is answered.
+// Whether lent bytes are as they were: every byte is 90 before a job is answered.
 fn untouched(out: &[u8]) -> bool {
     let before = [90u8; 65536];
     let n = out.len();
@@ -40,30 +40,28 @@ fn holds(out: &[u8], object: &[u8]) -> bool {
 
 // Whether the job gets exactly the object into `out`.
 fn makes(job: &[u8], out: &mut [u8], object: &[u8]) -> bool {
-    match maker::make(job, out) {
-        Making::Made(len) => {
-            if len == object.len() {
-                return holds(out, object);
-            }
-            false
-        }
-        Making::Refused(_) => false,
+    let made = maker::make(job, out);
+    let Making::Made(len) = made else {
+        return false;
+    };
+    if len == object.len() {
+        return holds(out, object);
     }
+    false
 }
 
-// Whether the job is refused for its room, with the length `n` that it needs, and `out` is left as it was.
+// Whether the job is refused for lack of room, with the length `n` that it needs, and `out` is left as it was.
 fn wants(job: &[u8], out: &mut [u8], n: usize) -> bool {
-    match maker::make(job, out) {
-        Making::Made(_) => false,
-        Making::Refused(r) => {
-            if is_refusal(r, 8, 0) {
-                if r.needed() == n {
-                    return untouched(out);
-                }
-            }
-            false
+    let made = maker::make(job, out);
+    let Making::Refused(r) = made else {
+        return false;
+    };
+    if is_refusal(r, 8, 0) {
+        if r.needed() == n {
+            return untouched(out);
         }
     }
+    false
 }
 
 // Whether a refusal has this number and this line.
@@ -73,8 +71,8 @@ fn is_refusal(r: Refusal, number: u64, line: u64) -> bool {
     n == number && l == line
 }
 
-// Whether the job gets its object in the room of 65,536 bytes and in just as much as it needs, and is refused 8 with one byte less and
-// with none.
+// Whether the job gets its object with room for 65,536 bytes and with just what it needs, and is refused 8 with one byte less and with
+// none.
 fn makes_in_each_room(job: &[u8], object: &[u8]) -> bool {
     let n = object.len();
     if n < 1 {
@@ -105,18 +103,17 @@ fn makes_in_each_room(job: &[u8], object: &[u8]) -> bool {
 // Whether the job is refused as stored, and the output is left as it was.
 fn refuses(job: &[u8], number: u64, line: u64) -> bool {
     let mut out = [90u8; 65536];
-    match maker::make(job, &mut out) {
-        Making::Made(_) => false,
-        Making::Refused(r) => {
-            if is_refusal(r, number, line) {
-                return untouched(&out);
-            }
-            false
-        }
+    let made = maker::make(job, &mut out);
+    let Making::Refused(r) = made else {
+        return false;
+    };
+    if is_refusal(r, number, line) {
+        return untouched(&out);
     }
+    false
 }
 
-// The answer to a job, held against the stored one: number 0 is an accepted job.
+// The answer to a job, compared with the stored one: number 0 is an accepted job.
 fn answered(job: &[u8], object: &[u8], number: u64, line: u64) -> Shown {
     if number == 0 {
         if makes_in_each_room(job, object) {
@@ -189,7 +186,7 @@ fn print(what: &[u8], n: u64) {
     io::write_all(STDOUT_FILENO, what);
 }
 
-// Each accepted job was refused for its room too, so that their count stands in two lines.
+// Each accepted job was refused for lack of room too, so their count is in two lines.
 fn print_counts(accepted: u64, refused: u64, differ: u64) {
     print(
         b" objects as stored, in 65536 bytes and in just their length\n",

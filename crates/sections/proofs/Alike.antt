@@ -1,32 +1,27 @@
 -- The sections of the definitions and those that the tables give agree in alignment and contents; so their layout is the same.
-use mathlib.Core.Path.{_≡_, refl, sym, _∙_, ap}
-use mathlib.Core.Bool.{Bool, true, false, cond}
+use mathlib.Core.Path.{_≡_, refl, ap}
+use mathlib.Core.Bool.{cond}
 use mathlib.Core.List.{List, [], _∷_, _++_, map, append-assoc}
-use Prim.Native.Nat.{ℕ, zero, suc, _+_, _-_, _*_, _≤_, _<_}
+use Prim.Native.Nat.{ℕ, suc, _+_}
 use native.Mathlib.Omega.{arith}
-use lib.ListN.{length, take, drop, getD, replicate, length-append, length-drop}
-use lib.Seq.{length-take-le, take-at}
+use lib.ListN.{length, take, drop}
 use lib.Dec.{eqb, eqb·suc-zero}
-use Rattle.octets.specs.Octets.{ascii}
-use Rattle.octets.proofs.Lists.{All}
-use Rattle.ast.specs.Job.{Map, Job}
-use Rattle.ast.specs.Job as job
+use Rattle.octets.specs.All.{All}
+use Rattle.ast.specs.Job.{Map, Relocation}
 use Rattle.elf.specs.Elf.{Section, place, after, endOf, laid, headerBytes, sectionHeaders, headerFor}
-use Rattle.elf.specs.Entries.{nullSection}
-use Rattle.elf.specs.declared.Section as code
 use Rattle.elf.specs.Row.{placesAt}
 use Rattle.elf.proofs.Places.{Aligned}
 use Rattle.object.specs.declared.Slot.{Slot}
 use Rattle.object.specs.declared.Program.{Program}
 use Rattle.object.specs.declared.BpfObject.{BpfObject}
-use Rattle.object.specs.Read.{programIn, programsIn, relocationsIn, declaredMaps, jobIn}
+use Rattle.object.specs.Read.{nameIn, programsIn, relocationsIn, declaredMaps, jobIn}
 use Rattle.object.specs.Kept.{Kept, AllKept}
-use Rattle.object.specs.Object.{mapSections, relSections, past, programSections, pastAll, firstProgram, declaredSections}
-use Rattle.contents.specs.Slots.{slotsBytes, AllResolved}
-use Rattle.contents.proofs.Slots.{slots-resolved, part-resolved, resolved-placed}
-use Rattle.strtab.proofs.Whole.{count-declared, programs-there}
+use Rattle.object.specs.Object.{mapSections, relocationBytes, relSections, past, programSections, pastAll, firstProgram}
+use Rattle.object.proofs.Slots.{AllCounted, part-resolved, all-counted}
+use Rattle.contents.proofs.Slots.{slots-relocations, resolved-placed}
+use Rattle.strtab.proofs.Whole.{count-declared}
 use Rattle.elf.specs.Headers.{headersBytes}
-use Rattle.measure.specs.Measured.{sectionOf, rowsFrom, rowsOf, sectionsOf, tableSections}
+use Rattle.measure.specs.Measured.{rowsFrom, sectionsOf, tableSections}
 use Rattle.sections.specs.Pieces.{bare, relPiece, programPieces, mapPieces, tablePieces, allPieces, AllSlotted}
 
 abbrev pub Alike : List Section → List Section → Type 0
@@ -65,31 +60,32 @@ alike-maps : (ms : List Map) → Alike (mapSections ms) (mapPieces (length ms) m
 alike-maps [] = tt
 alike-maps (m ∷ ms) = rw (eqb·suc-zero (length ms)) (refl, refl, (refl, refl, tt))
 
-alike-rel : (text : List ℕ) (ms : List Map) (symtab at : ℕ) (name : List ℕ) (ss : List Slot) → AllResolved text ms ss
-    → Alike (relSections ms symtab at name (relocationsIn text ss)) (cond (eqb (length ss) 0) [] (bare 8 (slotsBytes text ss) ∷ []))
-alike-rel text ms symtab at name [] r = tt
-alike-rel text ms symtab at name (s ∷ ss) r = rw (eqb·suc-zero (length ss)) (refl, sym (slots-resolved text ms (s ∷ ss) r), tt)
+alike-rel : (symtab at : ℕ) (name : List ℕ) (rs : List Relocation)
+    → Alike (relSections symtab at name rs) (cond (eqb (length rs) 0) [] (bare 8 (relocationBytes rs) ∷ []))
+alike-rel symtab at name [] = tt
+alike-rel symtab at name (r ∷ rs) = rw (eqb·suc-zero (length rs)) (refl, refl, tt)
+
+alike-programs : (text : List ℕ) (slots : List Slot) (symtab at : ℕ) (ps : List Program) → AllCounted text slots ps
+    → Alike (programSections symtab at (programsIn text slots ps)) (programPieces text slots ps)
+alike-programs text slots symtab at [] c = tt
+alike-programs text slots symtab at (p ∷ ps) c =
+    let name = nameIn text (p .section) in
+    let part = take (p .relocs) (drop (p .first) slots) in
+    let rs = relocationsIn text part in
+    let rel : Alike (relSections symtab at name rs) (relPiece text slots p) = rw (c .0, ← slots-relocations text part) at (alike-rel symtab at name rs) in (
+      refl,
+      refl,
+      alike-append (relSections symtab at name rs) (relPiece text slots p) (programSections symtab (past rs at) (programsIn text slots ps)) (programPieces text slots ps)
+          rel (alike-programs text slots symtab (past rs at) ps (c .1)),
+    )
 
 module _ (text : List ℕ) (o : BpfObject) (k : Kept text o) where
   abbrev ms : List Map
   ms = declaredMaps text o
 
-  alike-programs : (symtab at : ℕ) (ps : List Program) → AllKept text (o .«reloc_count») ps → Alike (programSections ms symtab at (programsIn text (o .slots) ps)) (programPieces text (o .slots) ps)
-  alike-programs symtab at [] q = tt
-  alike-programs symtab at (p ∷ ps) q =
-      let part = take (p .relocs) (drop (p .first) (o .slots)) in
-      let n : length part ≡ p .relocs = length-take-le (p .relocs) (drop (p .first) (o .slots)) (rw length-drop (omega (arith, k .sound, q .0 .slots))) in
-      let rel : Alike (relSections ms symtab at (programIn text (o .slots) p .section) (relocationsIn text part)) (relPiece text (o .slots) p) =
-      rw n at (alike-rel text ms symtab at (programIn text (o .slots) p .section) part (part-resolved text o p k (q .0 .slots))) in (
-        refl,
-        refl,
-        alike-append (relSections ms symtab at (programIn text (o .slots) p .section) (relocationsIn text part)) (relPiece text (o .slots) p)
-            (programSections ms symtab (past (relocationsIn text part) at) (programsIn text (o .slots) ps)) (programPieces text (o .slots) ps) rel (alike-programs symtab (past (relocationsIn text part) at) ps (q .1)),
-      )
-
   slotted : (ps : List Program) → AllKept text (o .«reloc_count») ps → AllSlotted text (o .slots) ps
   slotted [] q = tt
-  slotted (p ∷ ps) q = (resolved-placed text ms (take (p .relocs) (drop (p .first) (o .slots))) (part-resolved text o p k (q .0 .slots)), slotted ps (q .1))
+  slotted (p ∷ ps) q = (resolved-placed text ms (take (p .relocs) (drop (p .first) (o .slots))) (part-resolved text o k p (q .0 .slots)), slotted ps (q .1))
 
   pub all-slotted : AllSlotted text (o .slots) (take (o .«program_count») (o .programs))
   all-slotted = slotted (take (o .«program_count») (o .programs)) (k .programs)
@@ -97,10 +93,10 @@ module _ (text : List ℕ) (o : BpfObject) (k : Kept text o) where
   pub alike-all : Alike (sectionsOf (jobIn text o)) (allPieces text o)
   alike-all =
       let first = firstProgram ms in
-      let ps = programSections ms (pastAll (jobIn text o .programs) first) first (jobIn text o .programs) in
+      let ps = programSections (pastAll (jobIn text o .programs) first) first (jobIn text o .programs) in
       let mp = rw (count-declared text o k) at (alike-maps ms) in
       let tail = alike-append ps (programPieces text (o .slots) (take (o .«program_count») (o .programs))) (tableSections (jobIn text o)) (tablePieces (jobIn text o))
-      (alike-programs (pastAll (jobIn text o .programs) first) first (take (o .«program_count») (o .programs)) (k .programs)) (refl, refl, (refl, refl, (refl, refl, tt))) in
+      (alike-programs text (o .slots) (pastAll (jobIn text o .programs) first) first (take (o .«program_count») (o .programs)) (all-counted text o k)) (refl, refl, (refl, refl, (refl, refl, tt))) in
       (refl, refl, rw (append-assoc (mapSections ms) ps (tableSections (jobIn text o))) (alike-append (mapSections ms) (mapPieces (o .«map_count») ms) (ps ++ tableSections (jobIn text o)) (programPieces text (o .slots) (take (o .«program_count») (o .programs)) ++ tablePieces (jobIn text o)) mp tail))
 
 -- ---- the headers

@@ -1,4 +1,4 @@
--- Sections in a row: one section written behind the last, and rows one behind the other.
+-- Sections in a row: one section written after the last, and rows one after the other.
 use mathlib.Core.Path.{_≡_, refl, sym, _∙_, ap}
 use mathlib.Core.List.{List, [], _∷_, _++_, append-assoc, append-nil}
 use Prim.Native.Nat.{ℕ, _+_, _-_, _*_, _≤_, _<_}
@@ -28,7 +28,7 @@ end-append end (x ∷ xs) ys = end-append (after end x) xs ys
 pub place-up : (end : ℕ) (s : Section) → 0 < s .align → end ≤ place end s
 place-up end s h = align-up (s .align) end h
 
--- one section that has its place: what lies before it is cleared, and its contents are written into its part
+-- one section that has its place: the bytes before it are cleared, and its contents are written into its part
 module _ {d : List ℕ} {end size : ℕ} {s : Section} (f : Fits d end size s) where
   up : end ≤ place end s
   up = place-up end s (align-small (f .aligned) .0)

@@ -1,4 +1,4 @@
--- Writing sections one behind the other: what is kept before each section, and what one section, or a row of them, does to it.
+-- Writing sections one after the other: what is kept before each section, and what one section, or a row of them, does to it.
 use mathlib.Core.Path.{_≡_, refl, sym, _∙_, ap}
 use mathlib.Core.Bool.{Bool, true, false, cond}
 use mathlib.Core.List.{List, [], _∷_, _++_}
@@ -13,7 +13,8 @@ use Rattle.octets.specs.Over.{over}
 use Rattle.ast.specs.Job.{Map}
 use Rattle.btf.specs.Btf.{btfBytes}
 use Rattle.btf.specs.Maps.{mapTypes, btfTypes}
-use Rattle.octets.proofs.Lists.{All, all-append}
+use Rattle.octets.specs.All.{All}
+use Rattle.octets.proofs.Lists.{all-append}
 use Rattle.octets.proofs.Going.{Going, over-nothing, go-start, go-as, go-on, go-done}
 use Rattle.elf.specs.Elf.{Section, place, after, endOf, laid}
 use Rattle.elf.specs.Added.{Alignment}
@@ -73,7 +74,7 @@ pub aligned-programs : (text : List ℕ) (slots : List Slot) (ps : List Program)
 aligned-programs text slots [] = tt
 aligned-programs text slots (p ∷ ps) = (omega arith, all-append Aligned (relPiece text slots p) (programPieces text slots ps) (aligned-rel text slots p) (aligned-programs text slots ps))
 
--- a program without relocations has its code alone, one with relocations has them behind it
+-- a program without relocations has its code alone, one with relocations has them after it
 pub no-rels : (text : List ℕ) (slots : List Slot) (p : Program) (rest : List Section) → p .relocs ≡ 0 → relPiece text slots p ++ rest ≡ rest
 no-rels text slots p rest e = rw (eq-eqb (p .relocs) 0 e)
 
@@ -89,7 +90,7 @@ rels-long text slots p l h a =
 
 -- ---- maps
 
--- where no section is to be written the output and the end stay as they are
+-- if no section is to be written, the output and the end stay as they are
 pub nothing-laid : (out : List ℕ) (end : ℕ) (ss : List Section) → ss ≡ [] → (out ≡ over out end (laid end ss)) × (end ≡ endOf end ss)
 nothing-laid out end ss e = (sym (ap (λ (x : List Section). over out end (laid end x)) e ∙ over-nothing out end), sym (ap (endOf end) e))
 

@@ -1,5 +1,5 @@
--- The sections of an object by what the layout asks of them, alignment and contents, read off the tables; and that a section has its place
--- in the output.
+-- The sections of an object, read from the tables, by what the layout needs: alignment and contents. And that a section has room in the
+-- output.
 use mathlib.Core.Path.{_≡_}
 use mathlib.Core.Bool.{cond}
 use mathlib.Core.List.{List, [], _∷_, _++_}
@@ -20,11 +20,11 @@ use Rattle.strtab.specs.Rows.{symtabOf, strtabOf}
 use Rattle.headers.specs.Names.{shstrtabOf}
 use Rattle.contents.specs.Slots.{slotsBytes, AllPlaced}
 
--- a section of which only the alignment and the contents are said
+-- a section of which only the alignment and the contents count
 abbrev pub bare : ℕ → List ℕ → Section
 bare align contents = record { name = []; kind = 0; flags = 0; align = align; entry = 0; link = 0; info = 0; contents = contents }
 
--- a program's REL section, where it has relocations
+-- a program's REL section, if it has relocations
 abbrev pub relPiece : List ℕ → List Slot → Program → List Section
 relPiece text slots p = cond (eqb (p .relocs) 0) [] (bare 8 (slotsBytes text (take (p .relocs) (drop (p .first) slots))) ∷ [])
 
@@ -33,7 +33,7 @@ abbrev pub programPieces : List ℕ → List Slot → List Program → List Sect
 programPieces text slots [] = []
 programPieces text slots (p ∷ ps) = bare 8 (codeOf (body text (p .from) (p .lines))) ∷ relPiece text slots p ++ programPieces text slots ps
 
--- a section of `size` bytes has its place in `out` behind what ends at `end`, and the numbers are far below what their types hold
+-- a section of `size` bytes has its place in `out` after what ends at `end`, and the numbers are far below what their types hold
 pub record Fits (out : List ℕ) (end size : ℕ) (s : Section) : Type 0 where
   pub aligned : Alignment (s .align)
   pub long : size ≡ length (s .contents)
@@ -45,7 +45,7 @@ abbrev pub AllSlotted : List ℕ → List Slot → List Program → Type 0
 AllSlotted text slots [] = Unit
 AllSlotted text slots (p ∷ ps) = AllPlaced text (take (p .relocs) (drop (p .first) slots)) × AllSlotted text slots ps
 
--- `.maps` and `.BTF`, where there are maps
+-- `.maps` and `.BTF`, if there are maps
 abbrev pub mapPieces : ℕ → List Map → List Section
 mapPieces count ms = cond (eqb count 0) [] (bare 8 (zeros (mapTypes 6 0 ms .size)) ∷ bare 4 (btfBytes (btfTypes ms)) ∷ [])
 

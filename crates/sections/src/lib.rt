@@ -1,4 +1,4 @@
-// The sections of an object, each written into its own part of the output, from its place to its end; what lies between two is cleared.
+// The sections of an object. Each is written into its own part of the output, and the bytes between two are cleared.
 ghost use mathlib.Core.Path.{_≡_};
 ghost use mathlib.Core.List.{[], _∷_, _++_};
 ghost use Prim.Native.Nat.{_+_, _*_, _≤_};
@@ -19,13 +19,17 @@ ghost use Rattle.btf.specs.Maps.{btfTypes};
 ghost use Rattle.named.specs.There.{MapsThere, Lent};
 ghost use Rattle.members.specs.Section.{theMaps};
 use ast::MapDecl;
+use elf::FileHeader;
+use elf::Rel;
+use elf::Section;
+use elf::Symbol;
 use measure::Sizes;
 use object::BpfObject;
 use object::License;
 use object::Program;
 use object::Slot;
 
-// What lies between `end` and the next place of that alignment is cleared; that place.
+// Clears the bytes from `end` to the next place of that alignment; returns that place.
 fn pad(out: &mut [u8], end: usize, align: u64) -> usize
     requires { ⌜ Alignment align ⌝ }
     requires { ⌜ (alignTo align end ≤ length (now out)) × (length (now out) ≤ 200000000) ⌝ }
@@ -37,20 +41,20 @@ fn pad(out: &mut [u8], end: usize, align: u64) -> usize
     at
 }
 
-// The licence's section, behind what ends at `end`; where it ends.
+// The licence's section, after what ends at `end`; returns where it ends.
 fn lay_license(out: &mut [u8], end: usize, text: &[u8], license: License, size: usize) -> usize
     requires { ⌜ LicenceNamed (now text) license ⌝ }
     requires { ⌜ Fits (now out) end size (bare 1 (licenceIn (now text) license ++ (0 ∷ []))) ⌝ }
     ensures { λ _. ⌜ now (out .exit) ≡ over (now (out .entry)) end (laid end (bare 1 (licenceIn (now (text .entry)) license ++ (0 ∷ [])) ∷ [])) ⌝ }
     ensures { λ r. ⌜ r ≡ endOf end (bare 1 (licenceIn (now (text .entry)) license ++ (0 ∷ [])) ∷ []) ⌝ }
 {
-    let at = pad(out, end, 1);
+    let at = pad(out, end, Section::ALIGN_BYTE);
     let behind = at + size;
     contents::put_license(&mut out[at..behind], text, license);
     behind
 }
 
-// A program's section, behind what ends at `end`; where it ends.
+// A program's section, after what ends at `end`; returns where it ends.
 fn lay_code(out: &mut [u8], end: usize, text: &[u8], program: Program) -> usize
     requires { ⌜ length (body (now text) (program .from) (program .lines)) ≡ program .lines ⌝ }
     requires { ⌜ AllFrames (body (now text) (program .from) (program .lines)) ⌝ }
@@ -58,7 +62,7 @@ fn lay_code(out: &mut [u8], end: usize, text: &[u8], program: Program) -> usize
     ensures { λ _. ⌜ now (out .exit) ≡ over (now (out .entry)) end (laid end (bare 8 (codeOf (body (now (text .entry)) (program .from) (program .lines))) ∷ [])) ⌝ }
     ensures { λ r. ⌜ r ≡ endOf end (bare 8 (codeOf (body (now (text .entry)) (program .from) (program .lines))) ∷ []) ⌝ }
 {
-    let at = pad(out, end, 8);
+    let at = pad(out, end, Section::ALIGN_DOUBLE);
     let behind = at + program.code_len as usize;
     bodies::put_code(
         &mut out[at..behind],
@@ -69,16 +73,22 @@ fn lay_code(out: &mut [u8], end: usize, text: &[u8], program: Program) -> usize
     behind
 }
 
-// A program's REL section, behind what ends at `end`; where it ends.
-fn lay_rels(out: &mut [u8], end: usize, text: &[u8], slots: [Slot; 256], program: Program) -> usize
+// A program's REL section, after what ends at `end`; returns where it ends.
+fn lay_rels(
+    out: &mut [u8],
+    end: usize,
+    text: &[u8],
+    slots: [Slot; BpfObject::RELOCATIONS],
+    program: Program,
+) -> usize
     requires { ⌜ program .first + program .relocs ≤ 256 ⌝ }
     requires { ⌜ AllPlaced (now text) (take (program .relocs) (drop (program .first) slots)) ⌝ }
     requires { ⌜ Fits (now out) end (16 * program .relocs) (bare 8 (slotsBytes (now text) (take (program .relocs) (drop (program .first) slots)))) ⌝ }
     ensures { λ _. ⌜ now (out .exit) ≡ over (now (out .entry)) end (laid end (bare 8 (slotsBytes (now (text .entry)) (take (program .relocs) (drop (program .first) slots))) ∷ [])) ⌝ }
     ensures { λ r. ⌜ r ≡ endOf end (bare 8 (slotsBytes (now (text .entry)) (take (program .relocs) (drop (program .first) slots))) ∷ []) ⌝ }
 {
-    let at = pad(out, end, 8);
-    let behind = at + 16 * (program.relocs as usize);
+    let at = pad(out, end, Section::ALIGN_DOUBLE);
+    let behind = at + Rel::SIZE * (program.relocs as usize);
     contents::put_rels(
         &mut out[at..behind],
         text,
@@ -89,19 +99,19 @@ fn lay_rels(out: &mut [u8], end: usize, text: &[u8], slots: [Slot; 256], program
     behind
 }
 
-// A section of zeros, `.maps`, behind what ends at `end`; where it ends.
+// A section of zeros, `.maps`, after what ends at `end`; returns where it ends.
 fn lay_zeros(out: &mut [u8], end: usize, size: usize) -> usize
     requires { ⌜ Fits (now out) end size (bare 8 (zeros size)) ⌝ }
     ensures { λ _. ⌜ now (out .exit) ≡ over (now (out .entry)) end (laid end (bare 8 (zeros size) ∷ [])) ⌝ }
     ensures { λ r. ⌜ r ≡ endOf end (bare 8 (zeros size) ∷ []) ⌝ }
 {
-    let at = pad(out, end, 8);
+    let at = pad(out, end, Section::ALIGN_DOUBLE);
     let behind = at + size;
     octets::clear(&mut out[at..behind]);
     behind
 }
 
-// `.symtab`, behind what ends at `end`; where it ends.
+// `.symtab`, after what ends at `end`; returns where it ends.
 fn lay_symtab<'a>(
     out: &mut [u8],
     end: usize,
@@ -118,13 +128,13 @@ fn lay_symtab<'a>(
     ensures { λ _. ⌜ now (out .exit) ≡ over (now (out .entry)) end (laid end (bare 8 (symtabOf (jobIn (now (text .entry)) object)) ∷ [])) ⌝ }
     ensures { λ r. ⌜ r ≡ endOf end (bare 8 (symtabOf (jobIn (now (text .entry)) object)) ∷ []) ⌝ }
 {
-    let at = pad(out, end, 8);
+    let at = pad(out, end, Section::ALIGN_DOUBLE);
     let behind = at + size;
-    symbols::put_symtab(&mut out[at..behind], text, object, ats, lens, license);
+    symbols::build_symtab(&mut out[at..behind], text, object, ats, lens, license);
     behind
 }
 
-// `.strtab`, behind what ends at `end`; where it ends.
+// `.strtab`, after what ends at `end`; returns where it ends.
 fn lay_strtab<'a>(
     out: &mut [u8],
     end: usize,
@@ -139,32 +149,32 @@ fn lay_strtab<'a>(
     ensures { λ _. ⌜ now (out .exit) ≡ over (now (out .entry)) end (laid end (bare 1 (strtabOf (jobIn (now (text .entry)) object)) ∷ [])) ⌝ }
     ensures { λ r. ⌜ r ≡ endOf end (bare 1 (strtabOf (jobIn (now (text .entry)) object)) ∷ []) ⌝ }
 {
-    let at = pad(out, end, 1);
+    let at = pad(out, end, Section::ALIGN_BYTE);
     let behind = at + size;
     strtab::put_strtab(&mut out[at..behind], text, object, ats, lens);
     behind
 }
 
-// `.shstrtab`, behind what ends at `end`; where it ends.
+// `.shstrtab`, after what ends at `end`; returns where it ends.
 fn lay_shstrtab(out: &mut [u8], end: usize, text: &[u8], object: BpfObject, size: usize) -> usize
     requires { ⌜ Kept (now text) object ⌝ }
     requires { ⌜ Fits (now out) end size (bare 1 (shstrtabOf (jobIn (now text) object))) ⌝ }
     ensures { λ _. ⌜ now (out .exit) ≡ over (now (out .entry)) end (laid end (bare 1 (shstrtabOf (jobIn (now (text .entry)) object)) ∷ [])) ⌝ }
     ensures { λ r. ⌜ r ≡ endOf end (bare 1 (shstrtabOf (jobIn (now (text .entry)) object)) ∷ []) ⌝ }
 {
-    let at = pad(out, end, 1);
+    let at = pad(out, end, Section::ALIGN_BYTE);
     let behind = at + size;
-    headers::put_shstrtab(&mut out[at..behind], text, object);
+    headers::build_shstrtab(&mut out[at..behind], text, object);
     behind
 }
 
-// The sections of programs, behind what ends at `start`; where they end.
+// The sections of programs, after what ends at `start`; returns where they end.
 fn lay_programs(
     out: &mut [u8],
     start: usize,
     text: &[u8],
-    slots: [Slot; 256],
-    programs: [Program; 32],
+    slots: [Slot; BpfObject::RELOCATIONS],
+    programs: [Program; BpfObject::PROGRAMS],
     count: usize,
 ) -> usize
     requires { ⌜ ProgramsThere (now text) programs count ⌝ }
@@ -187,8 +197,8 @@ fn lay_programs(
     end
 }
 
-// The object's programs' sections, where there are programs, behind what ends at `end`; where they end. With none no table is handed on, since
-// a function has a copy of a table that it is handed.
+// The sections of the object's programs, after what ends at `end`; returns where they end. With no program, no table is passed on, since a
+// table that is passed is copied.
 fn write_programs(out: &mut [u8], end: usize, text: &[u8], object: BpfObject) -> usize
     requires { ⌜ Kept (now text) object ⌝ }
     requires { ⌜ (endOf end (programPieces (now text) (object .slots) (take (object .«program_count») (object .programs))) ≤ length (now out)) × (length (now out) ≤ 200000000) ⌝ }
@@ -204,12 +214,12 @@ fn write_programs(out: &mut [u8], end: usize, text: &[u8], object: BpfObject) ->
     lay_programs(out, end, text, slots, programs, count)
 }
 
-// `.BTF`, behind what ends at `end`; where it ends.
+// `.BTF`, after what ends at `end`; returns where it ends.
 fn lay_btf<'a>(
     out: &mut [u8],
     end: usize,
     text: &[u8],
-    maps: [MapDecl; 64],
+    maps: [MapDecl; BpfObject::MAPS],
     ats: &'a [u16],
     lens: &'a [u16],
     count: usize,
@@ -222,13 +232,13 @@ fn lay_btf<'a>(
     ensures { λ _. ⌜ now (out .exit) ≡ over (now (out .entry)) end (laid end (bare 4 (btfBytes (btfTypes (theMaps (now (text .entry)) maps (now (ats .entry)) (now (lens .entry)) count))) ∷ [])) ⌝ }
     ensures { λ r. ⌜ r ≡ endOf end (bare 4 (btfBytes (btfTypes (theMaps (now (text .entry)) maps (now (ats .entry)) (now (lens .entry)) count))) ∷ []) ⌝ }
 {
-    let at = pad(out, end, 4);
+    let at = pad(out, end, Section::ALIGN_WORD);
     let behind = at + size;
     types::build_btf(&mut out[at..behind], text, maps, ats, lens, count, types);
     behind
 }
 
-// `.maps` and `.BTF`, where there are maps, behind what ends at `end`; where they end.
+// `.maps` and `.BTF`, if there are maps, after what ends at `end`; returns where they end.
 fn write_maps<'a>(
     out: &mut [u8],
     end: usize,
@@ -255,7 +265,7 @@ fn write_maps<'a>(
     lay_btf(out, middle, text, maps, ats, lens, count, types, sizes.btf)
 }
 
-// The three tables, behind what ends at `end`; where they end. The sections' names take `names` bytes.
+// The three tables, after what ends at `end`; returns where they end. The sections' names take `names` bytes.
 fn write_tables<'a>(
     out: &mut [u8],
     end: usize,
@@ -274,13 +284,14 @@ fn write_tables<'a>(
     ensures { λ _. ⌜ now (out .exit) ≡ over (now (out .entry)) end (laid end (tablePieces (jobIn (now (text .entry)) object))) ⌝ }
     ensures { λ r. ⌜ r ≡ endOf end (tablePieces (jobIn (now (text .entry)) object)) ⌝ }
 {
-    let symbols = 24 * (2 + object.map_count + object.program_count);
+    let symbols = Symbol::SIZE * (Symbol::FIRST_MAP + object.map_count + object.program_count);
     let first = lay_symtab(out, end, text, object, ats, lens, sizes.license, symbols);
     let second = lay_strtab(out, first, text, object, ats, lens, sizes.strtab);
     lay_shstrtab(out, second, text, object, names)
 }
 
-// All sections, from the end of the file header on; where they end. Their names take `names` bytes, and the types in `.BTF` take `types`.
+// All sections, from the end of the file header on; returns where they end. Their names take `names` bytes, and the types in `.BTF` take
+// `types`.
 pub fn write_sections<'a>(
     out: &mut [u8],
     text: &[u8],
@@ -301,7 +312,7 @@ pub fn write_sections<'a>(
     ensures { λ r. ⌜ r ≡ endOf 64 (allPieces (now (text .entry)) object) ⌝ }
 {
     let declared = object.license;
-    let licensed = lay_license(out, 64, text, declared, sizes.license + 1);
+    let licensed = lay_license(out, FileHeader::SIZE, text, declared, sizes.license + 1);
     let mapped = write_maps(out, licensed, text, object, ats, lens, types, sizes);
     let programmed = write_programs(out, mapped, text, object);
     write_tables(out, programmed, text, object, ats, lens, sizes, names)

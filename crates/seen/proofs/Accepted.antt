@@ -1,5 +1,5 @@
--- Demand 3: in the object of every accepted job a loader reads what the job declares, for each of its programs. It holds of every job that
--- is within limits, and an accepted one is. The bytes that a text is answered with are such an object.
+-- Demand 3: in the object of every accepted job a loader reads what the job declares, for each of its programs, and the job's relocations
+-- have their maps' numbers. It holds of every job within limits, as an accepted one is. The bytes that answer a text are such an object.
 use mathlib.Core.Path.{_≡_, refl, sym, subst, _∙_}
 use mathlib.Core.Bool.{Bool, true, false, cond}
 use mathlib.Core.List.{List, [], _∷_, _++_, map, map-append}
@@ -8,8 +8,9 @@ use native.Mathlib.Omega.{arith}
 use lib.Dec.{leb}
 use lib.ListN.{length, length-append, length-map}
 use Rattle.octets.specs.Octets.{ascii}
-use Rattle.octets.proofs.Lists.{All, all-append, all-weaken, get-add}
-use Rattle.ast.specs.Job.{Job}
+use Rattle.octets.specs.All.{All}
+use Rattle.octets.proofs.Lists.{all-append, all-weaken, get-add}
+use Rattle.ast.specs.Job.{Program, Job}
 use Rattle.elf.specs.Strings.{addStrings, emptyTable, AllPlaced}
 use Rattle.elf.specs.Elf.{Section, endOf}
 use Rattle.elf.proofs.Strings.{AllStand, all-stand, stand-length, size-append, table-length}
@@ -18,9 +19,9 @@ use Rattle.object.specs.Object.{declaredSections, symbols, tableSection, object
 use Rattle.object.proofs.Counts.{count-symbols}
 use Rattle.refusals.specs.Checked.{Checked, checked, accepted, faulty}
 use Rattle.job.specs.Answer.{Answer, made, refused, fitted, answer}
-use Rattle.refusals.proofs.Within.{Within, accepted-within}
+use Rattle.refusals.proofs.Within.{RelocationWithin, ProgramWithin, Within, accepted-within}
 use Rattle.reading.specs.Reading.{reading, reads}
-use Rattle.seen.specs.Seen.{seen}
+use Rattle.seen.specs.Seen.{seen, Last, Resolved, Loads}
 use Rattle.seen.proofs.Sections.{Sound, SoundFile, reading-file}
 use Rattle.seen.proofs.Bounds.{Good, good-names, good-end, declared-good, declared-few, tables, tables-good, symbols-fit, symbols-names}
 use Rattle.seen.proofs.Loading.{loaded-object}
@@ -95,10 +96,16 @@ module _ (j : Job) where
         reading-file (secNames .places) all (tableSection (ascii ".shstrtab") (secNames .table)) sound-file
         ∙ loaded-object j w (symNames .places) (symNames .table) (secNames .table) (omega (arith, symbols-short)) symbols-stand
 
-pub reads-accepted : (text : List ℕ) (j : Job) → checked text ≡ accepted j → reading (object j) ≡ reads (seen j)
-reads-accepted text j e = reads-within j (accepted-within text j e)
+pub resolved-accepted : (text : List ℕ) (j : Job) → checked text ≡ accepted j → Resolved j
+resolved-accepted text j e =
+    all-weaken (ProgramWithin (j .maps)) (λ (p : Program). All (Last (j .maps)) (p .relocations))
+    (λ p h. all-weaken (RelocationWithin (j .maps)) (Last (j .maps)) (λ r w. w .last) (p .relocations) (h .relocations))
+    (j .programs) (accepted-within text j e .programs)
 
--- ---- the same of the bytes that a text is answered with
+pub reads-accepted : (text : List ℕ) (j : Job) → checked text ≡ accepted j → Loads (object j) j
+reads-accepted text j e = record { read = reads-within j (accepted-within text j e); resolved = resolved-accepted text j e }
+
+-- ---- the same for the bytes that answer a text
 
 abbrev answered : Checked → ℕ → Answer
 answered c room = elim c [ accepted j ↦ fitted room (object j) | faulty n l ↦ refused n l 0 ]
@@ -111,10 +118,9 @@ fitted-made room o bytes e = go (leb (length o) room) e
     go false q = cc
 
 pub reads-made : (text : List ℕ) (room : ℕ) (bytes : List ℕ) → answer text room ≡ made bytes
-    → (j : Job) × (checked text ≡ accepted j) × (reading bytes ≡ reads (seen j))
+    → (j : Job) × (checked text ≡ accepted j) × Loads bytes j
 reads-made text room bytes e = go (checked text) refl e
   where
-    go : (c : Checked) → checked text ≡ c → answered c room ≡ made bytes → (j : Job) × (checked text ≡ accepted j) × (reading bytes ≡ reads (seen j))
-    go (accepted j) q a =
-        (j, q, subst (λ (b : List ℕ). reading b ≡ reads (seen j)) (fitted-made room (object j) bytes a) (reads-accepted text j q))
+    go : (c : Checked) → checked text ≡ c → answered c room ≡ made bytes → (j : Job) × (checked text ≡ accepted j) × Loads bytes j
+    go (accepted j) q a = (j, q, subst (λ (b : List ℕ). Loads b j) (fitted-made room (object j) bytes a) (reads-accepted text j q))
     go (faulty n l) q a = let z : _≡_ {A = ℕ} 0 1 = cc in absurd (omega arith)

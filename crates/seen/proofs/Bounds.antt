@@ -1,16 +1,17 @@
--- The sections, symbols, relocations and BTF of a job within limits fit their fields: what the laws of reading ask of them.
+-- The sections, symbols, relocations and BTF of a job within limits fit their fields, as the laws of reading ask.
 use mathlib.Core.Path.{_≡_, refl}
 use mathlib.Core.Bool.{Bool, true, false, cond}
-use mathlib.Core.Option.{Option, none, some}
+use mathlib.Core.Option.{some}
 use mathlib.Core.List.{List, [], _∷_, _++_, map}
 use Prim.Native.Nat.{ℕ, suc, _+_, _*_, _^_, _≤_, _<_}
 use native.Mathlib.Omega.{arith}
 use lib.Dec.{eqb}
 use lib.ListN.{length, length-append, length-replicate}
 use Rattle.octets.specs.Octets.{ascii}
-use Rattle.octets.proofs.Lists.{All, all-append, all-weaken}
+use Rattle.octets.specs.All.{All}
+use Rattle.octets.proofs.Lists.{all-append, all-weaken}
 use Rattle.written.proofs.Names.{Clean, written-short, written-clean}
-use Rattle.ast.specs.Job.{Map, Relocation, Program, Job, lastMap}
+use Rattle.ast.specs.Job.{Map, Relocation, Program, Job}
 use Rattle.elf.specs.Elf.{Section, Symbol, after, endOf}
 use Rattle.elf.specs.Row.{sizeOf}
 use Rattle.elf.proofs.Rows.{length-symbols}
@@ -20,7 +21,6 @@ use Rattle.btf.specs.Maps.{mapSize, mapTypes, btfTypes}
 use Rattle.btf.proofs.MapTypes.{FitMap, map-size, maps-fit, btf-fits, btf-weighs, btf-short}
 use Rattle.object.specs.Object.{plain, mapSections, relSections, past, programSections, pastAll, mapSymbols, programSymbols, firstProgram, symbols, declaredSections, tableSection, symbolSection}
 use Rattle.object.proofs.Counts.{last-below, past-near, past-all-near, first-near, symtab-number, count-symbols, length-relocations}
-use Rattle.refusals.specs.Checked.{declares}
 use Rattle.refusals.proofs.Within.{MapWithin, RelocationWithin, ProgramWithin, Within, relocationsIn, codeIn}
 use Rattle.reading.specs.Maps.{readBtf}
 use Rattle.seen.proofs.Sections.{Sound}
@@ -31,22 +31,13 @@ use Rattle.seen.proofs.Programs.{FitRelocation}
 
 -- ---- relocations
 
-declared-last : (ms : List Map) (name : List ℕ) → declares ms name ≡ true → (k : ℕ) × (lastMap name ms ≡ some k)
-declared-last ms name d = go (lastMap name ms) refl
-  where
-    go : (o : Option ℕ) → lastMap name ms ≡ o → (k : ℕ) × (lastMap name ms ≡ some k)
-    go none e = let c : false ≡ true = rw (e, declares) at d in (let y : _≡_ {A = ℕ} 0 1 = cc in absurd (omega arith))
-    go (some k) e = (k, e)
+relocation-fits : (ms : List Map) (r : Relocation) → RelocationWithin ms r → FitRelocation (length ms) r
+relocation-fits ms r w = record { offset = w .offset; below = omega (arith, last-below 0 (r .map) ms (r .number) (w .last)) }
 
-relocation-fits : (ms : List Map) (r : Relocation) → RelocationWithin ms r → FitRelocation ms r
-relocation-fits ms r w =
-    let (k, e) = declared-last ms (r .map) (w .declared) in
-    record { offset = w .offset; map = k; last = e; below = omega (arith, last-below 0 (r .map) ms k e) }
-
-pub relocations-fit : (j : Job) → Within j → All (λ (p : Program). All (FitRelocation (j .maps)) (p .relocations)) (j .programs)
+pub relocations-fit : (j : Job) → Within j → All (λ (p : Program). All (FitRelocation (length (j .maps))) (p .relocations)) (j .programs)
 relocations-fit j w =
     all-weaken (ProgramWithin (j .maps)) _
-    (λ p h. all-weaken (RelocationWithin (j .maps)) (FitRelocation (j .maps)) (relocation-fits (j .maps)) (p .relocations) (h .relocations))
+    (λ p h. all-weaken (RelocationWithin (j .maps)) (FitRelocation (length (j .maps))) (relocation-fits (j .maps)) (p .relocations) (h .relocations))
     (j .programs) (w .programs)
 
 -- ---- maps
@@ -64,7 +55,7 @@ btf-there j w =
 
 -- ---- sections
 
--- a section that L1 and L2 take, near its predecessor and short
+-- a section that L1 and L2 take, near the one before it and short
 pub record Good (s : Section) : Type 0 where
   pub sound : Sound s
   pub near : s .align ≤ 8
@@ -93,29 +84,29 @@ plain-good name flags align bytes f a b l n c =
       contents = l;
     }
 
-rel-good : (ms : List Map) (symtab at : ℕ) (name : List ℕ) (rs : List Relocation) → symtab < 2 ^ 32 → at < 2 ^ 32 → length name ≤ 64 → Clean name
+rel-good : (symtab at : ℕ) (name : List ℕ) (rs : List Relocation) → symtab < 2 ^ 32 → at < 2 ^ 32 → length name ≤ 64 → Clean name
     → length rs ≤ 256
-    → All Good (relSections ms symtab at name rs)
-rel-good ms symtab at name [] l k n c b = tt
-rel-good ms symtab at name (r ∷ rs) l k n c b = (
+    → All Good (relSections symtab at name rs)
+rel-good symtab at name [] l k n c b = tt
+rel-good symtab at name (r ∷ rs) l k n c b = (
   record {
     sound =
         record { aligned = omega arith; fit = record { kind = omega arith; flags = omega arith; link = l; info = k }; short = omega arith; clean = c };
     near = omega arith;
-    contents = omega (arith, length-relocations ms (r ∷ rs));
+    contents = omega (arith, length-relocations (r ∷ rs));
   },
   tt,
 )
 
 programs-good : (ms : List Map) (symtab at : ℕ) (ps : List Program) → symtab < 2 ^ 32 → at + 2 * length ps < 2 ^ 32 → All (ProgramWithin ms) ps
     → relocationsIn ps ≤ 256 → codeIn ps < 2 ^ 32
-    → All Good (programSections ms symtab at ps)
+    → All Good (programSections symtab at ps)
 programs-good ms symtab at [] l k w c d = tt
 programs-good ms symtab at (p ∷ ps) l k w c d =
     let near = past-near (p .relocations) at in (
       plain-good (p .section) 6 8 (p .code) (omega arith) (omega arith) (omega arith) (omega arith) (w .0 .section .short) (w .0 .clean),
-      all-append Good (relSections ms symtab at (p .section) (p .relocations)) (programSections ms symtab (past (p .relocations) at) ps)
-          (rel-good ms symtab at (p .section) (p .relocations) l (omega arith) (w .0 .section .short) (w .0 .clean) (omega arith))
+      all-append Good (relSections symtab at (p .section) (p .relocations)) (programSections symtab (past (p .relocations) at) ps)
+          (rel-good symtab at (p .section) (p .relocations) l (omega arith) (w .0 .section .short) (w .0 .clean) (omega arith))
           (programs-good ms symtab (past (p .relocations) at) ps l (omega arith) (w .1) (omega arith) (omega arith)),
     )
 
@@ -137,7 +128,7 @@ declared-good j w =
     let code = w .code in (
       plain-good (ascii "license") 3 1 (j .licence ++ (0 ∷ [])) (omega arith) (omega arith) (omega arith)
           (omega (arith, length-append (j .licence) (0 ∷ []))) (omega arith) refl,
-      all-append Good (mapSections (j .maps)) (programSections (j .maps) (pastAll (j .programs) first) first (j .programs))
+      all-append Good (mapSections (j .maps)) (programSections (pastAll (j .programs) first) first (j .programs))
           (maps-good (j .maps) (maps-within j w) (w .mapCount))
           (programs-good (j .maps) (pastAll (j .programs) first) first (j .programs) (omega arith) (omega arith) (w .programs) (w .relocations) (omega arith)),
     )

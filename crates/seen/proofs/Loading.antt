@@ -1,5 +1,5 @@
--- L3 to L7 on an object's sections: of a job within limits, whose symbols' names stand in the string table, a loader finds what the job
--- declares.
+-- L3 to L7 on an object's sections: a loader finds what the job declares, if the job is within limits and its symbols' names are in the
+-- string table.
 use mathlib.Core.Path.{_≡_, refl, ap, _∙_}
 use mathlib.Core.Bool.{Bool}
 use mathlib.Core.Option.{some}
@@ -10,7 +10,7 @@ use native.Mathlib.Nat.{suc-add, zero-add}
 use lib.ListN.{length, getElem?, length-map}
 use borrow.Author.Tests.{le-leb}
 use Rattle.octets.specs.Octets.{ascii}
-use Rattle.octets.proofs.Lists.{All}
+use Rattle.octets.specs.All.{All}
 use Rattle.ast.specs.Job.{Map, Program, Job}
 use Rattle.elf.specs.Elf.{Section, Symbol}
 use Rattle.elf.proofs.Strings.{AllStand, stand-length}
@@ -53,11 +53,11 @@ strings-at xs a s rest q =
 -- ---- the sections before the programs'
 
 abbrev declaredOf : List ℕ → List Map → List Program → ℕ → List Section
-declaredOf licence ms ps symtab = licenseSection licence ∷ mapSections ms ++ programSections ms symtab (firstProgram ms) ps
+declaredOf licence ms ps symtab = licenseSection licence ∷ mapSections ms ++ programSections symtab (firstProgram ms) ps
 
 -- the programs' sections and those after them
 abbrev laterOf : List Map → List Program → ℕ → List Section → List Named
-laterOf ms ps symtab rest = namedFor (firstProgram ms) (programSections ms symtab (firstProgram ms) ps ++ rest)
+laterOf ms ps symtab rest = namedFor (firstProgram ms) (programSections symtab (firstProgram ms) ps ++ rest)
 
 module _ (licence : List ℕ) (ps : List Program) (symtab : ℕ) (rest : List Section) where
   later-kind : (ms : List Map) → keep (isKind 2) (namedFor 1 (declaredOf licence ms ps symtab ++ rest)) ≡ keep (isKind 2) (laterOf ms ps symtab rest)
@@ -88,13 +88,13 @@ module _ (licence : List ℕ) (ps : List Program) (symtab : ℕ) (rest : List Se
 -- ---- what the programs' sections and the maps' symbols are not
 
 passes-kind : Passes (isKind 2)
-passes-kind = record { code = λ i name bytes. refl; rel = λ i ms symtab at name rs. refl }
+passes-kind = record { code = λ i name bytes. refl; rel = λ i symtab at name rs. refl }
 
 passes-maps : Passes (isPlain 3 (ascii ".maps"))
-passes-maps = record { code = λ i name bytes. refl; rel = λ i ms symtab at name rs. refl }
+passes-maps = record { code = λ i name bytes. refl; rel = λ i symtab at name rs. refl }
 
 passes-btf : Passes (isPlain 0 (ascii ".BTF"))
-passes-btf = record { code = λ i name bytes. refl; rel = λ i ms symtab at name rs. refl }
+passes-btf = record { code = λ i name bytes. refl; rel = λ i symtab at name rs. refl }
 
 no-function : (k at : ℕ) (ms : List Map) (rest : List Symbol)
     → keep (isFunction k) (map seenSymbol (mapSymbols at ms ++ rest)) ≡ keep (isFunction k) (map seenSymbol rest)
@@ -103,9 +103,9 @@ no-function k at (m ∷ ms) rest = no-function k (at + mapSize m) ms rest
 
 -- ---- what is seen
 
-count-seen : (ms : List Map) (ps : List Program) → relocationCount (map (seenProgram ms) ps) ≡ relocationsIn ps
-count-seen ms [] = refl
-count-seen ms (p ∷ ps) = omega (arith, count-seen ms ps, length-map (p .relocations) (seenRelocation ms))
+count-seen : (ps : List Program) → relocationCount (map seenProgram ps) ≡ relocationsIn ps
+count-seen [] = refl
+count-seen (p ∷ ps) = omega (arith, count-seen ps, length-map (p .relocations) seenRelocation)
 
 maps-in : (at : ℕ) (ms : List Map) → mapsIn (foundFor at ms) ≡ map seenMap ms
 maps-in at [] = refl
@@ -130,7 +130,7 @@ module _ (j : Job) (w : Within j) (names strs secs : List ℕ) (short : length s
   syms = map seenSymbol (symbols j)
 
   pass-later : (p : Named → Bool) → Passes p → ((i : ℕ) → keep p (namedFor i rest) ≡ []) → keep p (laterOf (j .maps) (j .programs) symtab rest) ≡ []
-  pass-later p passes h = pass-programs p passes (j .maps) symtab rest first (j .programs) ∙ h (pastAll (j .programs) first)
+  pass-later p passes h = pass-programs p passes symtab rest first (j .programs) ∙ h (pastAll (j .programs) first)
 
   licence-there : readLicence ns ≡ some (j .licence)
   licence-there = rw (less-zero (j .licence), le-leb (length (j .licence)) 64 (w .licence .short))
@@ -139,7 +139,7 @@ module _ (j : Job) (w : Within j) (names strs secs : List ℕ) (short : length s
   symbols-there =
       let section = symbolSection (suc (length (declaredSections j))) names (symbols j) in
       symbols-of ns (namedOf symtab section) strs (length (symbols j))
-      (later-kind (j .licence) (j .programs) symtab rest (j .maps) ∙ pass-programs (isKind 2) passes-kind (j .maps) symtab rest first (j .programs))
+      (later-kind (j .licence) (j .programs) symtab rest (j .maps) ∙ pass-programs (isKind 2) passes-kind symtab rest first (j .programs))
       (strings-at (declaredSections j) section (tableSection (ascii ".strtab") strs) (tableSection (ascii ".shstrtab") secs ∷ []) refl)
       (length-symbols names (symbols j) (stand-length strs names (map (λ s. s .name) (symbols j)) stand ∙ length-map (symbols j) (λ s. s .name)))
       ∙ symbols-read strs names (symbols j) short stand (symbols-fit j w)
@@ -147,7 +147,7 @@ module _ (j : Job) (w : Within j) (names strs secs : List ℕ) (short : length s
   codes-there : readCodes syms ns ≡ some (codesFor first (j .programs))
   codes-there =
       codes-of ns (codeNamed first (j .programs)) syms
-      (later-code (j .licence) (j .programs) symtab rest (j .maps) ∙ keep-code (j .maps) symtab rest (λ i. refl) first (j .programs))
+      (later-code (j .licence) (j .programs) symtab rest (j .maps) ∙ keep-code symtab rest (λ i. refl) first (j .programs))
       (omega (arith, count-code first (j .programs), w .programCount))
       ∙ codes-read syms first (j .programs) (λ k l. no-function k 0 (j .maps) (programSymbols first (j .programs)))
 
@@ -164,17 +164,17 @@ module _ (j : Job) (w : Within j) (names strs secs : List ℕ) (short : length s
       let none : 0 + k ≡ k = omega arith in
       record { symbol = y; there = rw two e; section = s; at = rw a (map-at 0 0 (j .maps) k h ∙ ap some none) }
 
-  programs-there : readPrograms ns syms (foundFor 0 (j .maps)) (codesFor first (j .programs)) ≡ some (map (seenProgram (j .maps)) (j .programs))
+  programs-there : readPrograms ns syms (foundFor 0 (j .maps)) (codesFor first (j .programs)) ≡ some (map seenProgram (j .programs))
   programs-there =
-      programs-of ns syms (foundFor 0 (j .maps)) (codesFor first (j .programs)) (map (seenProgram (j .maps)) (j .programs))
-      (relocated-read ns syms (foundFor 0 (j .maps)) 2 (j .maps) symtab rest
+      programs-of ns syms (foundFor 0 (j .maps)) (codesFor first (j .programs)) (map seenProgram (j .programs))
+      (relocated-read ns syms (foundFor 0 (j .maps)) 2 (length (j .maps)) symtab rest
       (maps-there (j .licence) (j .programs) symtab rest (j .maps) (pass-later (isPlain 3 (ascii ".maps")) passes-maps (λ i. refl)))
       leads (w .mapCount) (λ k i. refl) first (j .programs) (relocations-fit j w)
       (λ k l. later-rel (j .licence) (j .programs) symtab rest k (j .maps)))
-      (omega (arith, count-seen (j .maps) (j .programs), w .relocations))
+      (omega (arith, count-seen (j .programs), w .relocations))
 
   pub loaded-object : loaded ns ≡ reads (seen j)
   loaded-object =
-      loaded-by ns (j .licence) syms (codesFor first (j .programs)) (foundFor 0 (j .maps)) (map (seenProgram (j .maps)) (j .programs))
+      loaded-by ns (j .licence) syms (codesFor first (j .programs)) (foundFor 0 (j .maps)) (map seenProgram (j .programs))
       licence-there symbols-there codes-there maps-are-there programs-there
       ∙ rw (maps-in 0 (j .maps))

@@ -1,5 +1,5 @@
 -- L6, the maps: from the types that `build_btf` makes a loader finds every map, in order and with exactly its declared attributes. Then the
--- way from a map's symbol to its number, which L7 goes.
+-- way from a map's symbol to its number, for L7.
 use mathlib.Core.Path.{_≡_, refl, sym, ap, _∙_}
 use mathlib.Core.Option.{some}
 use mathlib.Core.List.{List, [], _∷_, _++_, map, append-assoc, map-append}
@@ -9,7 +9,8 @@ use native.Mathlib.Nat.{add-zero}
 use lib.ListN.{length, getElem?, length-map}
 use borrow.Author.Tests.{le-leb, eq-eqb, ne-eqb}
 use Rattle.octets.specs.Octets.{ascii}
-use Rattle.octets.proofs.Lists.{All, get-add}
+use Rattle.octets.specs.All.{All}
+use Rattle.octets.proofs.Lists.{get-add}
 use Rattle.written.specs.Written.{written}
 use Rattle.ast.specs.Job.{Map}
 use Rattle.ast.specs.Numbers.{mapType, mapTypeNumber}
@@ -84,7 +85,7 @@ mapBy name kind key value entries = record { name = name; kind = kind; key = key
 
 module _ (b : List reading.BtfType) (ints : Ints b) (next at : ℕ) (raw name : List ℕ) (short : length name ≤ 64) (kind : MapType)
     (post : List reading.BtfType) where
-  -- the facts behind ids that stand `k` after `next`
+  -- facts about the id that is `k` after `next`
   number-from : {ts : List reading.BtfType} → From b next ts → (k i n : ℕ) → i ≡ next + k → getElem? ts k ≡ some (reading.array n)
       → getElem? ts (suc k) ≡ some (reading.ptr i)
       → numberOf b (i + 1) ≡ some n
@@ -100,7 +101,7 @@ module _ (b : List reading.BtfType) (ints : Ints b) (next at : ℕ) (raw name : 
       → numberOf b (next + 1) ≡ some (mapTypeNumber kind)
   kind-from h x y = number-from h 0 next (mapTypeNumber kind) (omega arith) x y
 
-  -- by which attributes are there: each is found behind its member, and no other member is
+  -- by which attributes are there: each is found by its member, and there is no other member
   map-read : (key value : TypeAttr) (entries : CountAttr) → From b next (map seenType (attributes next (mapBy raw kind key value entries) .types) ++ post)
       → mapOf b at (some name) (map seenMember (attributes next (mapBy raw kind key value entries) .members))
       ≡ some (record { map = mapBy name kind key value entries; offset = at })

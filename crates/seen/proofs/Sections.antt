@@ -1,5 +1,5 @@
--- L1 and L2: a row of section headers is read back, and of a file that `file` lays out a loader finds every section, by its name and with
--- its contents. The law is over any sections that are sound; it knows nothing of a job.
+-- L1 and L2: a row of section headers is read back, and in a file that `file` lays out a loader finds every section, by its name and with
+-- its contents. The law holds for any sound sections; it knows nothing of a job.
 use mathlib.Core.Path.{_≡_, refl, ap, _∙_}
 use mathlib.Core.Bool.{true, or-true, cond}
 use mathlib.Core.Option.{some}
@@ -10,7 +10,8 @@ use lib.Dec.{eqb}
 use lib.ListN.{length, drop, getElem?, length-map}
 use borrow.Author.Tests.{le-leb}
 use Rattle.octets.proofs.Numbers.{value-le}
-use Rattle.octets.proofs.Lists.{All, all-weaken}
+use Rattle.octets.specs.All.{All}
+use Rattle.octets.proofs.Lists.{all-weaken}
 use Rattle.written.proofs.Names.{Clean}
 use Rattle.elf.specs.Elf.{Section, place, after, endOf, headerBytes, file}
 use Rattle.elf.specs.Elf as elf
@@ -153,7 +154,7 @@ table-read f (p ∷ ps) n (s ∷ ss) zero t l h e q =
     rw (kind, h .0) (ap (λ (x : Section). some (x .contents)) here)
 table-read f (p ∷ ps) n (s ∷ ss) (suc k) t l h e q = table-read f ps (after n s) ss k t (omega arith) (h .1) e q
 
--- over any bytes that hold the sections: `file` is not to compute here
+-- for any bytes that hold the sections, so that `file` is not computed here
 names-of : (f names : List ℕ) (ss : List Section) (k : ℕ) (t : Section) → length ss ≡ suc k → length names ≡ length ss → Held f 64 ss
     → getElem? ss k ≡ some t → t .kind ≡ 3 → AllStand (t .contents) names (map (λ s. s .name) ss) → All Sound ss
     → readNames f (record { headers = seenHeaders names 64 ss; names = length ss }) ≡ some (namedFor 1 ss)

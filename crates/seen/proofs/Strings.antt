@@ -1,4 +1,4 @@
--- A string that stands at a place of a string table is what a loader reads there.
+-- A string at a place of a string table is what a loader reads there.
 use mathlib.Core.Path.{_≡_, refl}
 use mathlib.Core.Option.{some}
 use mathlib.Core.List.{List, [], _∷_, _++_}

@@ -6,7 +6,7 @@ use Prim.Native.Nat.{ℕ, _%_, _^_, _≤_, _<_}
 use native.Mathlib.Omega.{arith}
 use lib.ListN.{length}
 use Rattle.octets.proofs.Numbers.{value-le}
-use Rattle.octets.proofs.Lists.{All}
+use Rattle.octets.specs.All.{All}
 use Rattle.written.proofs.Names.{Clean}
 use Rattle.elf.specs.Elf.{Symbol, symbolsBytes}
 use Rattle.elf.proofs.Strings.{AllStand, stands-inside}

@@ -1,4 +1,4 @@
--- L6, the bytes: a row of BTF types is read back, each with its names from the strings, and of a section that a builder finishes a loader
+-- L6, the bytes: a row of BTF types is read back, each with its names from the strings, and in a section that a builder finishes a loader
 -- finds the builder's types.
 use mathlib.Core.Path.{_≡_, refl, ap₂, _∙_}
 use mathlib.Core.Option.{some}
@@ -10,7 +10,7 @@ use lib.Seq.{drop-at, drop-append-add, drop-append-seam, take-append-seam}
 use borrow.Author.Tests.{ne-eqb}
 use Rattle.octets.specs.Octets.{le, value}
 use Rattle.octets.proofs.Numbers.{value-le}
-use Rattle.octets.proofs.Lists.{All}
+use Rattle.octets.specs.All.{All}
 use Rattle.written.proofs.Names.{Clean}
 use Rattle.elf.specs.Strings.{addStrings, emptyTable}
 use Rattle.elf.proofs.Strings.{AllStand, all-stand, all-stand-more, stand-length, stands-inside}

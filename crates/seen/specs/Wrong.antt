@@ -1,9 +1,9 @@
--- Writers that look right and are not. Each is the right one but for one change, and demand 3 refuses each of them: the theorem stands in
--- proofs/Wrong.antt. One job tells them all from the right one.
-use mathlib.Core.Bool.{Bool, false, cond, _||_}
+-- Writers that look right and are not. Each is the right one but for one change. Demand 3 refuses each of them, as proofs/Wrong.antt
+-- proves. One job tells them all from the right one.
+use mathlib.Core.Bool.{Bool, cond}
 use mathlib.Core.List.{List, [], _∷_, _++_, map}
 use Prim.Native.Nat.{ℕ, suc, _+_, _-_}
-use lib.ListN.{length, take}
+use lib.ListN.{length, take, drop}
 use lib.Dec.{eqb}
 use Rattle.octets.specs.Octets.{ascii, equal, zeros}
 use Rattle.written.specs.Written.{written}
@@ -18,7 +18,7 @@ use Rattle.ast.specs.declared.CountAttr.{CountAttr}
 use Rattle.ast.specs.declared.CountAttr.the-variants as count
 use Rattle.elf.specs.Strings.{addStrings, emptyTable}
 use Rattle.elf.specs.Elf.{Section, Symbol, file}
-use Rattle.object.specs.Object.{licenseSection, mapSections, programSections, pastAll, firstProgram, declaredSections, symbols, tableSection, symbolSection, object}
+use Rattle.object.specs.Object.{declaredSections, symbols, tableSection, symbolSection, object}
 use Rattle.reading.specs.Relocations as reading
 use Rattle.reading.specs.Reading.{Read, reads, fails}
 
@@ -48,14 +48,14 @@ job =
             section = ascii "x";
             symbol = ascii "p";
             code = 0x18 ∷ 1 ∷ 0 ∷ 0 ∷ 0 ∷ 0 ∷ 0 ∷ 0 ∷ [];
-            relocations = record { offset = 0; map = ascii "m" } ∷ [];
+            relocations = record { offset = 0; map = ascii "m"; number = 1 } ∷ [];
           }
           ∷ record {
             section = ascii "y";
             symbol = ascii "-q";
             code =
                 0 ∷ 0x11 ∷ 0x22 ∷ 0x33 ∷ 0x44 ∷ 0x55 ∷ 0x66 ∷ 0x77 ∷ 0x88 ∷ 0x99 ∷ 0xaa ∷ 0xbb ∷ 0xcc ∷ 0xdd ∷ 0xee ∷ 0xff ∷ [];
-            relocations = record { offset = 8; map = ascii "a-b" } ∷ record { offset = 0; map = ascii "m" } ∷ [];
+            relocations = record { offset = 8; map = ascii "a-b"; number = 2 } ∷ record { offset = 0; map = ascii "m"; number = 1 } ∷ [];
           } ∷ [];
     }
 
@@ -95,39 +95,42 @@ clearLater (s ∷ ss) = s ∷ cond (eqb (s .kind) 9) (map cleared ss) (clearLate
 abbrev pub laterLeftZero : Writer
 laterLeftZero j = objectOf (clearLater (declaredSections j)) (symbols j)
 
--- a relocation looked up otherwise: in the maps `ms`, for the programs `ps`
-abbrev pub lookedUp : List Map → List Program → Writer
-lookedUp ms ps j =
-    let first = firstProgram (j .maps) in
-    objectOf (licenseSection (j .licence) ∷ mapSections (j .maps) ++ programSections ms (pastAll (j .programs) first) first ps) (symbols j)
+-- the map of a relocation looked up in another way: a relocation is written with each number that is found for it
+abbrev pub numbered : (Relocation → List ℕ) → List Relocation → List Relocation
+numbered find [] = []
+numbered find (r ∷ rs) =
+    map (λ (k : ℕ). record { offset = r .offset; map = r .map; number = k }) (find r) ++ numbered find rs
 
--- the first of equal names: a later one is hidden behind a name that no job has
-abbrev isOneOf : List ℕ → List Map → Bool
-isOneOf name [] = false
-isOneOf name (m ∷ ms) = equal name (m .name) || isOneOf name ms
-
-abbrev renamed : List ℕ → Map → Map
-renamed name m = record { name = name; kind = m .kind; key = m .key; value = m .value; entries = m .entries }
-
-abbrev hideLater : List Map → List Map → List Map
-hideLater before [] = []
-hideLater before (m ∷ ms) = cond (isOneOf (m .name) before) (renamed (256 ∷ []) m) m ∷ hideLater (m ∷ before) ms
-
-abbrev pub firstOfEqualNames : Writer
-firstOfEqualNames j = lookedUp (hideLater [] (j .maps)) (j .programs) j
-
--- a relocation looked up by its written name
-abbrev byWritten : Program → Program
-byWritten p =
+abbrev pub renumbered : (Relocation → List ℕ) → Program → Program
+renumbered find p =
     record {
       section = p .section;
       symbol = p .symbol;
       code = p .code;
-      relocations = map (λ (r : Relocation). record { offset = r .offset; map = written (r .map) }) (p .relocations);
+      relocations = numbered find (p .relocations);
     }
 
+abbrev pub lookedUp : (Relocation → List ℕ) → Writer
+lookedUp find j = object (record { licence = j .licence; maps = j .maps; programs = map (renumbered find) (j .programs) })
+
+-- the numbers of the maps of which something holds, from number `i` on
+abbrev numbers : (Map → Bool) → ℕ → List Map → List ℕ
+numbers holds i [] = []
+numbers holds i (m ∷ ms) = cond (holds m) (i ∷ []) [] ++ numbers holds (suc i) ms
+
+abbrev firstOf : List ℕ → List ℕ
+firstOf ks = take 1 ks
+
+abbrev lastOf : List ℕ → List ℕ
+lastOf ks = drop (length ks - 1) ks
+
+-- the first of equal names
+abbrev pub firstOfEqualNames : Writer
+firstOfEqualNames j = lookedUp (λ r. firstOf (numbers (λ m. equal (r .map) (m .name)) 0 (j .maps))) j
+
+-- the last of equal written names
 abbrev pub writtenNames : Writer
-writtenNames j = lookedUp (map (λ (m : Map). renamed (written (m .name)) m) (j .maps)) (map byWritten (j .programs)) j
+writtenNames j = lookedUp (λ r. lastOf (numbers (λ m. equal (written (r .map)) (written (m .name))) 0 (j .maps))) j
 
 -- absent max_entries written as 0
 abbrev zeroEntries : CountAttr → CountAttr

@@ -1,1 +1,1 @@
-// What a loader finds in the object of a job: the definition stands in specs/Seen.antt.
+// What a loader finds in the object of a job: the definition is in specs/Seen.antt.

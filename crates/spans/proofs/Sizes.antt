@@ -1,4 +1,4 @@
--- How many bytes the types and the strings of maps take: what the loop that measures goes by.
+-- How many bytes the types and the strings of maps take: laws for the loop that measures.
 use mathlib.Core.Path.{_≡_, refl, sym, ap}
 use mathlib.Core.List.{List, [], _∷_, _++_}
 use Prim.Native.Nat.{ℕ, _+_, _*_, _≤_, _<_}

@@ -1,5 +1,5 @@
--- The strings of maps, from some map on: what the arms of a `match` leave, what the loop over the maps goes by, and that all of them are the
--- table that the definition gives.
+-- The strings of maps, from some map on: what the arms of a `match` leave, the invariant of the loop over the maps, and that all of them
+-- are the table of the definition.
 use mathlib.Core.Path.{_≡_, refl, sym, _∙_, ap}
 use mathlib.Core.List.{List, [], _∷_, _++_, append-assoc}
 use Prim.Native.Nat.{ℕ, _+_, _-_, _≤_, _<_}

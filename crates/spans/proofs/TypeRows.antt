@@ -1,4 +1,4 @@
--- The types of all maps, from some map on: what the loop over the maps goes by.
+-- The types of all maps, from some map on: the invariant of the loop over the maps.
 use mathlib.Core.Path.{_≡_, refl, sym, _∙_, ap}
 use mathlib.Core.List.{List, [], _∷_, _++_, append-assoc}
 use Prim.Native.Nat.{ℕ, _+_, _-_, _*_, _≤_, _<_}
@@ -23,7 +23,7 @@ use Rattle.members.specs.Section.{theMaps, oneMap, typesOf, mapBuilt, mapsBuilt
 use Rattle.members.proofs.Stages.{Stage, stage-start, stage-as, stage-within, stage-on, stage-done}
 use Rattle.members.proofs.OneMap.{asMap, struct-end, map-strings, map-next}
 
--- the definition's types are these, wherever the maps stand in their section
+-- the definition's types are these, wherever the maps are in their section
 pub map-types-are : (next at : ℕ) (ms : List Map) → mapTypes next at ms .types ≡ typesOf next ms
 map-types-are next at [] = refl
 map-types-are next at (m ∷ ms) =
@@ -106,7 +106,7 @@ module _ (text : List ℕ) (maps : List MapDecl) (ats lens : List ℕ) (count : 
         omega (arith, t .next-small, t .few),
       )
 
--- the builder behind maps
+-- the builder after maps
 pub maps-built : (b : BtfBuilder) (ms : List Map)
     → (mapsBuilt b ms .at ≡ b .at + length (bytesAt (b .strings) (typesOf (b .«next_type_id») ms))) × (mapsBuilt b ms .strings ≡ past (b .strings) (typesOf (b .«next_type_id») ms))
 maps-built b [] = (omega arith, refl)

@@ -11,9 +11,13 @@ use ast::CountAttr;
 use ast::MapDecl;
 use ast::Name;
 use ast::TypeAttr;
+use btf::BtfBuilder;
+use btf::BtfIntIds;
+use elf::Section;
+use object::BpfObject;
 
 // The size of `.maps`: the room of the maps one after the other.
-pub fn maps_size(maps: [MapDecl; 64], count: usize) -> usize
+pub fn maps_size(maps: [MapDecl; BpfObject::MAPS], count: usize) -> usize
     requires { ⌜ (count ≤ 64) × (length maps ≡ 64) ⌝ }
     ensures { λ r. ⌜ r ≡ roomsOf (take count maps) ⌝ }
     ensures { λ r. ⌜ r ≤ 32 * count ⌝ }
@@ -44,14 +48,44 @@ pub fn count_ids(attr: CountAttr) -> u32
 {
     match attr {
         CountAttr::Absent => 0,
-        CountAttr::Present(_) => 2,
+        CountAttr::Present(_) => BtfBuilder::NUMBER_IDS,
     }
 }
 
-// How many bytes the types and the strings of the section take.
+// How many bytes the types and the strings of `.BTF` take.
 pub struct BtfSize {
     pub types: usize,
     pub strings: usize,
+}
+
+impl BtfSize {
+    // Without any map: the ints, and the section's type and name.
+    pub const TYPES: usize = BtfIntIds::TYPES + BtfBuilder::TYPE_SIZE;
+
+    pub const STRINGS: usize = BtfIntIds::STRINGS + Section::MAPS_NAME_LEN + 1;
+
+    // A map's types besides its attributes' pointers and members: the array of its kind, the struct, the variable and the entry.
+    const MAP: usize = BtfBuilder::ARRAY_SIZE
+        + BtfBuilder::TYPE_SIZE
+        + BtfBuilder::VAR_SIZE
+        + BtfBuilder::ENTRY_SIZE;
+
+    // The pointer and the member of an attribute, for each byte of its room in `.maps`.
+    const ATTRIBUTE: usize = (BtfBuilder::TYPE_SIZE + BtfBuilder::MEMBER_SIZE)
+        / BtfBuilder::ROOM as usize;
+
+    // The array of a number of entries, for each of the number's types.
+    const ENTRIES: usize = BtfBuilder::ARRAY_SIZE / BtfBuilder::NUMBER_IDS as usize;
+
+    // The names of the members with their zero bytes; `max_entries` for each of the number's types.
+    const TYPE_NAME: usize = BtfBuilder::TYPE_NAME_LEN + 1;
+
+    const KEY_NAME: usize = BtfBuilder::KEY_NAME_LEN + 1;
+
+    const VALUE_NAME: usize = BtfBuilder::VALUE_NAME_LEN + 1;
+
+    const ENTRIES_NAME: usize = (BtfBuilder::MAX_ENTRIES_NAME_LEN + 1)
+        / BtfBuilder::NUMBER_IDS as usize;
 }
 
 // How many bytes a map's types take, with its entry in `.maps`.
@@ -61,7 +95,7 @@ fn map_span(map: MapDecl) -> usize
 {
     let entries = map.max_entries;
     let room = btf::btf_map_size(map) as usize;
-    3 * room + 64 + 12 * (count_ids(entries) as usize)
+    BtfSize::ATTRIBUTE * room + BtfSize::MAP + BtfSize::ENTRIES * (count_ids(entries) as usize)
 }
 
 // How many bytes the names of a map's members take.
@@ -72,17 +106,17 @@ fn names_span(map: MapDecl) -> usize
     let key = map.key_type;
     let value = map.value_type;
     let entries = map.max_entries;
-    let mut span: usize = 5;
-    span += 4 * (type_ids(key) as usize);
-    span += 6 * (type_ids(value) as usize);
-    span += 6 * (count_ids(entries) as usize);
+    let mut span = BtfSize::TYPE_NAME;
+    span += BtfSize::KEY_NAME * (type_ids(key) as usize);
+    span += BtfSize::VALUE_NAME * (type_ids(value) as usize);
+    span += BtfSize::ENTRIES_NAME * (count_ids(entries) as usize);
     span
 }
 
-// How many bytes the section's types and strings take: 92 and 27 without any map.
+// The same for a job's maps: 92 and 27 without any map.
 pub fn btf_size<'a>(
     text: &[u8],
-    maps: [MapDecl; 64],
+    maps: [MapDecl; BpfObject::MAPS],
     ats: &'a [u16],
     lens: &'a [u16],
     count: usize,
@@ -92,8 +126,8 @@ pub fn btf_size<'a>(
     ensures { λ r. ⌜ r .strings ≡ length (addTypes (btfTypes (theMaps (now (text .entry)) maps (now (ats .entry)) (now (lens .entry)) count)) start .strings) ⌝ }
     ensures { λ r. ⌜ r .types + r .strings ≤ 65535 ⌝ }
 {
-    let mut types: usize = 92;
-    let mut strings: usize = 27;
+    let mut types = BtfSize::TYPES;
+    let mut strings = BtfSize::STRINGS;
     let mut i = 0;
     while i < count {
         let map = maps[i];

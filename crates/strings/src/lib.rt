@@ -12,8 +12,10 @@ use ast::CountAttr;
 use ast::MapDecl;
 use ast::Name;
 use ast::TypeAttr;
+use btf::BtfIntIds;
+use object::BpfObject;
 
-// The name of a key's or a value's member, over what stands at `at`, and the place behind it; nothing for one that is absent.
+// The name of a key's or a value's member, over what is at `at`, or nothing if it is absent; returns the place after it.
 fn put_type_name(out: &mut [u8], at: usize, attr: TypeAttr, s: &[u8]) -> usize
     requires { ⌜ at + length (typeName attr (now s)) ≤ length (now out) ⌝ }
     ensures { λ _. ⌜ now (out .exit) ≡ over (now (out .entry)) at (typeName attr (now (s .entry))) ⌝ }
@@ -68,7 +70,7 @@ fn put_maps_strings<'a>(
     out: &mut [u8],
     at: usize,
     text: &[u8],
-    maps: [MapDecl; 64],
+    maps: [MapDecl; BpfObject::MAPS],
     ats: &'a [u16],
     lens: &'a [u16],
     count: usize,
@@ -95,7 +97,7 @@ fn put_maps_strings<'a>(
 pub fn put_strings<'a>(
     out: &mut [u8],
     text: &[u8],
-    maps: [MapDecl; 64],
+    maps: [MapDecl; BpfObject::MAPS],
     ats: &'a [u16],
     lens: &'a [u16],
     count: usize,
@@ -104,7 +106,10 @@ pub fn put_strings<'a>(
     requires { ⌜ length (now out) ≡ length (allStrings (theMaps (now text) maps (now ats) (now lens) count)) ⌝ }
     ensures { λ _. ⌜ now (out .exit) ≡ allStrings (theMaps (now (text .entry)) maps (now (ats .entry)) (now (lens .entry)) count) ⌝ }
 {
-    octets::copy(&mut out[0..21], b"\0int\0u32\0u64\0i32\0i64\0");
-    let end = put_maps_strings(out, 21, text, maps, ats, lens, count);
+    octets::copy(
+        &mut out[0..BtfIntIds::STRINGS],
+        b"\0int\0u32\0u64\0i32\0i64\0",
+    );
+    let end = put_maps_strings(out, BtfIntIds::STRINGS, text, maps, ats, lens, count);
     named::put_string_at(out, end, b".maps");
 }

@@ -1,4 +1,4 @@
--- Rows of symbols: how long they are, what a loop over the maps keeps, and that the rows are those of the definitions.
+-- Rows of symbols: how long they are, the invariant of a loop over the maps, and that the rows are those of the definitions.
 use mathlib.Core.Path.{_≡_, refl, ap}
 use mathlib.Core.List.{List, [], _∷_, _++_, map}
 use Prim.Native.Nat.{ℕ, zero, suc, _+_, _*_, _≤_, _<_}

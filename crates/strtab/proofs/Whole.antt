@@ -1,9 +1,9 @@
 -- `.symtab` and `.strtab` of the definitions are the rows that the code writes: the null symbol, LICENSE, the maps, the programs.
 use mathlib.Core.Path.{_≡_, refl, sym, _∙_, ap}
 use mathlib.Core.List.{List, [], _∷_, _++_, map, map-append, append-assoc, append-nil}
-use Prim.Native.Nat.{ℕ, suc, _+_, _-_, _*_, _≤_}
+use Prim.Native.Nat.{ℕ, suc, _+_, _-_, _*_}
 use native.Mathlib.Omega.{arith}
-use lib.ListN.{length, take, drop, length-append, length-drop}
+use lib.ListN.{length, take, length-append}
 use lib.Seq.{length-take-le}
 use lib.Dec.{eqb·suc-zero}
 use borrow.Rule.Slice.PartMut.{putMid}
@@ -11,7 +11,7 @@ use Rattle.octets.specs.Octets.{ascii}
 use Rattle.octets.specs.Over.{over}
 use Rattle.octets.proofs.Filling.{Filling, fill-start, fill-as, fill-on, fill-done, over-part}
 use Rattle.written.specs.Written.{written}
-use Rattle.ast.specs.Job.{Map}
+use Rattle.ast.specs.Job.{Map, Relocation}
 use Rattle.ast.specs.declared.MapDecl.{MapDecl}
 use Rattle.elf.specs.Strings.{emptyTable}
 use Rattle.elf.specs.Elf.{Symbol, symbolBytes, symbolsBytes, symbolInfo, entryBytes, nullEntry}
@@ -21,12 +21,13 @@ use Rattle.btf.specs.Maps.{mapSize}
 use Rattle.object.specs.declared.Slot.{Slot}
 use Rattle.object.specs.declared.Program.{Program}
 use Rattle.object.specs.declared.BpfObject.{BpfObject}
-use Rattle.object.specs.Read.{bytesAt, nameIn, mapIn, licenceIn, mapsIn, relocationsIn, programIn, programsIn, declaredMaps, jobIn}
+use Rattle.object.specs.Read.{bytesAt, nameIn, mapIn, licenceIn, mapsIn, programIn, programsIn, declaredMaps, jobIn}
 use Rattle.object.specs.Kept.{Kept, AllKept}
 use Rattle.object.specs.Object.{past, mapSymbols, programSymbols, firstProgram, symbols}
 use Rattle.object.proofs.Read.{count-maps}
 use Rattle.object.proofs.Counts.{count-map-symbols}
 use Rattle.object.proofs.Programs.{kept-more}
+use Rattle.object.proofs.Slots.{AllCounted, all-counted}
 use Rattle.named.specs.There.{Lent}
 use Rattle.strtab.specs.Rows.{rowAt, rowSize, mapRow, behind, firstOf, programRow, namesIn, programNames, symtabOf, strtabOf, ProgramsThere}
 use Rattle.strtab.proofs.Rows.{row-is, row-length, length-programs}
@@ -40,32 +41,24 @@ row-append n (x ∷ xs) ys =
     ap (λ (r : List ℕ). symbolBytes n x ++ r) (row-append (n + suc (length (x .name))) xs ys ∙ ap (λ (k : ℕ). rowAt (n + suc (length (x .name))) xs ++ rowAt k ys) e)
     ∙ sym (append-assoc (symbolBytes n x) (rowAt (n + suc (length (x .name))) xs) (rowAt (n + (suc (length (x .name)) + rowSize xs)) ys))
 
--- ---- the first program's section, and the one behind a program's
+-- ---- the first program's section, and the one after a program's
 
 pub first-of : (ms : List Map) → firstProgram ms ≡ firstOf (length ms)
 first-of [] = refl
 first-of (m ∷ ms) = rw (eqb·suc-zero (length ms))
 
-past-of : (text : List ℕ) (at : ℕ) (ss : List Slot) → past (relocationsIn text ss) at ≡ behind (length ss) at
-past-of text at [] = refl
-past-of text at (s ∷ ss) = rw (eqb·suc-zero (length ss))
-
--- a program's slots are as many as it counts
-pub behind-program : (text : List ℕ) (slots : List Slot) (at : ℕ) (p : Program) → p .first + p .relocs ≤ length slots
-    → past (programIn text slots p .relocations) at ≡ behind (p .relocs) at
-behind-program text slots at p h =
-    let n : length (take (p .relocs) (drop (p .first) slots)) ≡ p .relocs = length-take-le (p .relocs) (drop (p .first) slots) (rw length-drop (omega arith)) in
-    past-of text at (take (p .relocs) (drop (p .first) slots)) ∙ ap (λ (k : ℕ). behind k at) n
+pub past-of : (at : ℕ) (rs : List Relocation) → past rs at ≡ behind (length rs) at
+past-of at [] = refl
+past-of at (r ∷ rs) = rw (eqb·suc-zero (length rs))
 
 -- ---- programs
 
-pub program-row : (text : List ℕ) (slots : List Slot) (at : ℕ) (ps : List Program) → length slots ≡ 256 → AllKept text 256 ps
+program-row : (text : List ℕ) (slots : List Slot) (at n : ℕ) (ps : List Program) → AllCounted text slots ps → AllKept text n ps
     → programSymbols at (programsIn text slots ps) ≡ programRow text at ps
-program-row text slots at [] long k = refl
-program-row text slots at (p ∷ ps) long k =
-    let b = behind-program text slots at p (omega (arith, k .0 .slots)) in
-    let c = k .0 .code in
-    rw (b, c) (ap (λ (r : List Symbol). record { name = written (nameIn text (p .symbol)); info = symbolInfo 1 2; section = at; at = 0; size = p .«code_len» } ∷ r) (program-row text slots (behind (p .relocs) at) ps long (k .1)))
+program-row text slots at n [] c k = refl
+program-row text slots at n (p ∷ ps) c k =
+    rw (past-of at (programIn text slots p .relocations), c .0, k .0 .code)
+    (ap (λ (r : List Symbol). record { name = written (nameIn text (p .symbol)); info = symbolInfo 1 2; section = at; at = 0; size = p .«code_len» } ∷ r) (program-row text slots (behind (p .relocs) at) n ps (c .1) (k .1)))
 
 program-names : (text : List ℕ) (at : ℕ) (ps : List Program) → map (λ s. s .name) (programRow text at ps) ≡ programNames text ps
 program-names text at [] = refl
@@ -107,7 +100,7 @@ module _ (text : List ℕ) (o : BpfObject) (k : Kept text o) where
   pub symbols-are : symbols (jobIn text o) ≡ record { name = []; info = 0; section = 0; at = 0; size = 0 } ∷ licence ∷ mapped ++ programmed
   symbols-are =
       let f = first-of (declaredMaps text o) ∙ ap firstOf count-declared in
-      let p = program-row text (o .slots) (firstOf (o .«map_count»)) (take (o .«program_count») (o .programs)) (k .sound .slots) (programs-there .kept) in
+      let p = program-row text (o .slots) (firstOf (o .«map_count»)) (o .«reloc_count») (take (o .«program_count») (o .programs)) (all-counted text o k) (k .programs) in
       rw (f, p)
 
   pub symtab-is : symtabOf (jobIn text o)

@@ -1,4 +1,4 @@
--- Rows of symbols whose names stand one behind the other, as `.symtab` and `.strtab` have them, and the symbols of the tables.
+-- Rows of symbols with their names one after the other, as `.symtab` and `.strtab` have them, and the symbols of the tables.
 use mathlib.Core.Bool.{cond}
 use mathlib.Core.List.{List, [], _∷_, _++_, map}
 use mathlib.Core.Path.{_≡_}
@@ -29,7 +29,7 @@ rowSize (s ∷ ss) = suc (length (s .name)) + rowSize ss
 abbrev pub mapRow : List ℕ → List MapDecl → List ℕ → List ℕ → ℕ → List Symbol
 mapRow text ds ats lens n = mapSymbols 0 (mapsIn text (take n ds) (take n ats) (take n lens))
 
--- the number of the section behind a program's, which has a REL section where it has relocations
+-- the number of the section after a program's, which has a REL section if it has relocations
 abbrev pub behind : ℕ → ℕ → ℕ
 behind relocs at = cond (eqb relocs 0) (suc at) (suc (suc at))
 

@@ -1,4 +1,5 @@
-// The string table of the symbols: its size and its bytes. And the numbers of the programs' sections, by which the symbols and the section headers go.
+// `.strtab`, the names of the symbols: its size and its bytes. Beside it are the numbers of the programs' sections, which the symbols and
+// the section headers need.
 ghost use mathlib.Core.Path.{_≡_};
 ghost use Prim.Native.Nat.{_+_, _*_, _≤_};
 ghost use lib.ListN.{length, take};
@@ -8,10 +9,12 @@ ghost use Rattle.object.specs.Read.{jobIn};
 ghost use Rattle.named.specs.There.{NamesThere, Lent};
 ghost use Rattle.strtab.specs.Rows.{behind, firstOf, namesIn, programNames, strtabOf, ProgramsThere};
 use ast::Name;
+use elf::Section;
+use elf::Symbol;
 use object::BpfObject;
 use object::Program;
 
-// The maps' written names, each with its zero byte, from the eleventh byte on; the place behind them.
+// The maps' written names, each with its zero byte, from the eleventh byte on; returns the place after them.
 fn put_map_names<'a>(
     out: &mut [u8],
     text: &[u8],
@@ -24,7 +27,7 @@ fn put_map_names<'a>(
     ensures { λ _. ⌜ now (out .exit) ≡ over (now (out .entry)) 10 (joined (namesIn (now (text .entry)) (take count (now (ats .entry))) (take count (now (lens .entry))))) ⌝ }
     ensures { λ r. ⌜ r ≡ 10 + length (joined (namesIn (now (text .entry)) (take count (now (ats .entry))) (take count (now (lens .entry))))) ⌝ }
 {
-    let mut at: usize = 10;
+    let mut at = Symbol::NEXT_NAME_AT;
     let mut i = 0;
     while i < count {
         let name = Name {
@@ -42,7 +45,7 @@ fn put_program_names(
     out: &mut [u8],
     start: usize,
     text: &[u8],
-    programs: [Program; 32],
+    programs: [Program; BpfObject::PROGRAMS],
     count: usize,
 )
     requires { ⌜ ProgramsThere (now text) programs count ⌝ }
@@ -78,7 +81,7 @@ fn map_names_size<'a>(text: &[u8], ats: &'a [u16], lens: &'a [u16], count: usize
 }
 
 // How many bytes the programs' written names take, each with its zero byte.
-fn program_names_size(text: &[u8], programs: [Program; 32], count: usize) -> usize
+fn program_names_size(text: &[u8], programs: [Program; BpfObject::PROGRAMS], count: usize) -> usize
     requires { ⌜ ProgramsThere (now text) programs count ⌝ }
     ensures { λ r. ⌜ r ≡ sizeOf (programNames (now (text .entry)) (take count programs)) ⌝ }
     ensures { λ r. ⌜ r ≤ 65 * count ⌝ }
@@ -93,7 +96,7 @@ fn program_names_size(text: &[u8], programs: [Program; 32], count: usize) -> usi
     n
 }
 
-// How long `.strtab` is. The places of the maps' names are lent beside the tables: a table that lends them itself would be copied whole.
+// How long `.strtab` is. The places of the maps' names are lent beside the object: lending them out of it would copy it whole.
 pub fn strtab_size<'a>(text: &[u8], object: BpfObject, ats: &'a [u16], lens: &'a [u16]) -> usize
     requires { ⌜ Lent (now text) object (now ats) (now lens) ⌝ }
     ensures { λ r. ⌜ r ≡ length (strtabOf (jobIn (now (text .entry)) object)) ⌝ }
@@ -102,7 +105,7 @@ pub fn strtab_size<'a>(text: &[u8], object: BpfObject, ats: &'a [u16], lens: &'a
     let programs = object.programs;
     let maps_size = map_names_size(text, ats, lens, object.map_count);
     let programs_size = program_names_size(text, programs, object.program_count);
-    10 + maps_size + programs_size
+    Symbol::NEXT_NAME_AT + maps_size + programs_size
 }
 
 // `.strtab`, into a part of exactly its length.
@@ -118,24 +121,24 @@ pub fn put_strtab<'a>(
     ensures { λ _. ⌜ now (out .exit) ≡ strtabOf (jobIn (now (text .entry)) object) ⌝ }
 {
     let programs = object.programs;
-    octets::clear(&mut out[0..2]);
-    named::put_string_at(out, 2, b"LICENSE");
+    octets::clear(&mut out[0..Symbol::LICENSE_NAME_AT]);
+    named::put_string_at(out, Symbol::LICENSE_NAME_AT, b"LICENSE");
     let at = put_map_names(out, text, ats, lens, object.map_count);
     put_program_names(out, at, text, programs, object.program_count);
 }
 
-// The section number of the first program: `.maps` and `.BTF` stand before it where there are maps.
+// The section number of the first program: `.maps` and `.BTF` are before it if there are maps.
 pub fn first_program(maps: usize) -> usize
     ensures { λ r. ⌜ r ≡ firstOf maps ⌝ }
     ensures { λ r. ⌜ r ≤ 4 ⌝ }
 {
     if maps == 0 {
-        return 2;
+        return Section::AFTER_LICENSE;
     }
-    4
+    Section::AFTER_BTF
 }
 
-// The number of the section behind a program's sections: a program with relocations has a REL section too.
+// The number of the section after a program's sections: a program with relocations has a REL section too.
 pub fn section_behind(section: usize, relocs: u16) -> usize
     requires { ⌜ section ≤ 1000 ⌝ }
     ensures { λ r. ⌜ r ≡ behind relocs section ⌝ }

@@ -1,4 +1,4 @@
-// `.symtab` and `.strtab`: the null symbol, LICENSE, the maps and the programs, and their names in the same order.
+// `.symtab`: the null symbol, LICENSE, the maps and the programs. Crate strtab writes their names, in the same order.
 ghost use mathlib.Core.Path.{_≡_};
 ghost use Prim.Native.Nat.{_+_, _*_, _≤_};
 ghost use lib.ListN.{length, take};
@@ -8,15 +8,16 @@ ghost use Rattle.object.specs.Read.{licenceIn, jobIn};
 ghost use Rattle.strtab.specs.Rows.{rowAt, rowSize, mapRow, programRow, symtabOf, ProgramsThere};
 use ast::MapDecl;
 use ast::Name;
+use elf::Section;
 use elf::Symbol;
 use object::BpfObject;
 use object::Program;
 
-// The maps' symbols, from the third entry on; the place of the next name.
+// The maps' symbols, from the third entry on; returns the place of the next name.
 fn put_map_symbols<'a>(
     out: &mut [u8],
     text: &[u8],
-    maps: [MapDecl; 64],
+    maps: [MapDecl; BpfObject::MAPS],
     ats: &'a [u16],
     lens: &'a [u16],
     count: usize,
@@ -27,39 +28,39 @@ fn put_map_symbols<'a>(
     ensures { λ r. ⌜ r ≡ 10 + rowSize (mapRow (now (text .entry)) maps (now (ats .entry)) (now (lens .entry)) count) ⌝ }
     ensures { λ r. ⌜ r ≤ 10 + 65 * count ⌝ }
 {
-    let mut at: usize = 48;
-    let mut place: usize = 10;
+    let mut at = Symbol::MAPS_AT;
+    let mut place = Symbol::NEXT_NAME_AT;
     let mut value: u64 = 0;
     let mut i = 0;
     while i < count {
         let size = btf::btf_map_size(maps[i]) as u64;
         let symbol = Symbol {
             name: place as u32,
-            info: 17,
-            section: 2,
+            info: Symbol::GLOBAL_OBJECT,
+            section: Section::MAPS,
             value,
             size,
         };
-        symbol.put(&mut out[at..at + 24]);
+        symbol.put(&mut out[at..at + Symbol::SIZE]);
         let name = Name {
             at: ats[i],
             len: lens[i],
         };
         place = place + named::written_size(text, name) + 1;
         value += size;
-        at += 24;
+        at += Symbol::SIZE;
         i += 1;
     }
     place
 }
 
-// The programs' symbols, from `start` on, where the first one's name is at `names` and its section is `first`.
+// The programs' symbols, from `start` on. The first one's name is at `names`, and its section is number `first`.
 fn put_program_symbols(
     out: &mut [u8],
     start: usize,
     names: usize,
     text: &[u8],
-    programs: [Program; 32],
+    programs: [Program; BpfObject::PROGRAMS],
     count: usize,
     first: usize,
 )
@@ -76,21 +77,21 @@ fn put_program_symbols(
         let program = programs[i];
         let symbol = Symbol {
             name: place as u32,
-            info: 18,
+            info: Symbol::GLOBAL_FUNC,
             section: section as u16,
             value: 0,
             size: program.code_len as u64,
         };
-        symbol.put(&mut out[at..at + 24]);
+        symbol.put(&mut out[at..at + Symbol::SIZE]);
         place = place + named::written_size(text, program.symbol) + 1;
         section = strtab::section_behind(section, program.relocs);
-        at += 24;
+        at += Symbol::SIZE;
         i += 1;
     }
 }
 
-// `.symtab`, into a part of exactly its length, where the licence has `license` bytes.
-pub fn put_symtab<'a>(
+// `.symtab`, into a part of exactly its length. The licence has `license` bytes.
+pub fn build_symtab<'a>(
     out: &mut [u8],
     text: &[u8],
     object: BpfObject,
@@ -107,20 +108,20 @@ pub fn put_symtab<'a>(
     let maps = object.maps;
     let programs = object.programs;
     let count = object.map_count;
-    Symbol::null().put(&mut out[0..24]);
+    Symbol::null().put(&mut out[0..Symbol::SIZE]);
     let symbol = Symbol {
-        name: 2,
-        info: 17,
-        section: 1,
+        name: Symbol::LICENSE_NAME_AT as u32,
+        info: Symbol::GLOBAL_OBJECT,
+        section: Section::LICENSE,
         value: 0,
         size: (license + 1) as u64,
     };
-    symbol.put(&mut out[24..48]);
+    symbol.put(&mut out[Symbol::SIZE..Symbol::MAPS_AT]);
     let names = put_map_symbols(out, text, maps, ats, lens, count);
     let first = strtab::first_program(count);
     put_program_symbols(
         out,
-        48 + 24 * count,
+        Symbol::MAPS_AT + Symbol::SIZE * count,
         names,
         text,
         programs,

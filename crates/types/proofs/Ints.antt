@@ -1,4 +1,4 @@
--- The five ints: each is written behind the one before it, by a builder that is known.
+-- The five ints: each is written after the one before it, by a known builder.
 use mathlib.Core.Path.{_≡_, refl, _∙_, ap}
 use mathlib.Core.List.{List, [], _∷_, _++_}
 use Prim.Native.Nat.{ℕ, _+_, _^_, _<_}

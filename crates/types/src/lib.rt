@@ -14,8 +14,11 @@ ghost use Rattle.named.specs.There.{MapsThere};
 use ast::MapDecl;
 use ast::Name;
 use btf::BtfBuilder;
+use btf::BtfIntIds;
+use elf::Section;
+use object::BpfObject;
 
-// All types of a map: its attributes, its struct, and the variable that bears its name.
+// All types of a map: its attributes, its struct, and the variable with its name.
 fn add_map(b: BtfBuilder, out: &mut [u8], text: &[u8], map: MapDecl, name: Name) -> BtfBuilder
     requires { ⌜ Named (now text) name ⌝ }
     requires { ⌜ Within (moved b (length (bytesAt (b .strings) (oneMap (b .«next_type_id») (mapIn (now text) map (name .at) (name .len))))) 92 8) (length (now out)) ⌝ }
@@ -33,7 +36,7 @@ fn add_maps<'a>(
     b: BtfBuilder,
     out: &mut [u8],
     text: &[u8],
-    maps: [MapDecl; 64],
+    maps: [MapDecl; BpfObject::MAPS],
     ats: &'a [u16],
     lens: &'a [u16],
     count: usize,
@@ -64,11 +67,26 @@ fn add_ints(out: &mut [u8]) -> BtfBuilder
     ensures { λ r. ⌜ r ≡ intsBuilt ⌝ }
 {
     let none = BtfBuilder::new();
-    let int = none.add_int(out, 3, 4, BtfBuilder::INT_SIGNED);
-    let u32_int = int.add_int(out, 3, 4, 0);
-    let u64_int = u32_int.add_int(out, 3, 8, 0);
-    let i32_int = u64_int.add_int(out, 3, 4, BtfBuilder::INT_SIGNED);
-    i32_int.add_int(out, 3, 8, BtfBuilder::INT_SIGNED)
+    let int = none.add_int(
+        out,
+        BtfIntIds::NAME_LEN,
+        BtfIntIds::BYTES_32,
+        BtfBuilder::INT_SIGNED,
+    );
+    let u32_int = int.add_int(out, BtfIntIds::NAME_LEN, BtfIntIds::BYTES_32, 0);
+    let u64_int = u32_int.add_int(out, BtfIntIds::NAME_LEN, BtfIntIds::BYTES_64, 0);
+    let i32_int = u64_int.add_int(
+        out,
+        BtfIntIds::NAME_LEN,
+        BtfIntIds::BYTES_32,
+        BtfBuilder::INT_SIGNED,
+    );
+    i32_int.add_int(
+        out,
+        BtfIntIds::NAME_LEN,
+        BtfIntIds::BYTES_64,
+        BtfBuilder::INT_SIGNED,
+    )
 }
 
 // The id of the variable of a map whose types begin at the id `next`.
@@ -80,7 +98,7 @@ fn var_id(next: u32, map: MapDecl) -> u32
     let key = map.key_type;
     let value = map.value_type;
     let entries = map.max_entries;
-    let mut id = next + 3;
+    let mut id = next + BtfBuilder::NUMBER_IDS + 1;
     id += spans::type_ids(key);
     id += spans::type_ids(value);
     id += spans::count_ids(entries);
@@ -88,13 +106,13 @@ fn var_id(next: u32, map: MapDecl) -> u32
 }
 
 // The entries of `.maps`, one for each map.
-fn add_entries(b: BtfBuilder, out: &mut [u8], maps: [MapDecl; 64], count: usize)
+fn add_entries(b: BtfBuilder, out: &mut [u8], maps: [MapDecl; BpfObject::MAPS], count: usize)
     requires { ⌜ (count ≤ 64) × (length maps ≡ 64) ⌝ }
     requires { ⌜ Within (passed b (12 * count) 0) (length (now out)) ⌝ }
     ensures { λ _. ⌜ now (out .exit) ≡ over (now (out .entry)) (b .at) (entriesBytes 6 0 (take count maps)) ⌝ }
 {
     let mut done = b;
-    let mut next: u32 = 6;
+    let mut next = BtfIntIds::NEXT;
     let mut offset: u32 = 0;
     let mut i = 0;
     while i < count {
@@ -109,13 +127,13 @@ fn add_entries(b: BtfBuilder, out: &mut [u8], maps: [MapDecl; 64], count: usize)
 }
 
 // The section `.maps`: its size, and an entry for each map.
-fn add_maps_section(b: BtfBuilder, out: &mut [u8], maps: [MapDecl; 64], count: usize)
+fn add_maps_section(b: BtfBuilder, out: &mut [u8], maps: [MapDecl; BpfObject::MAPS], count: usize)
     requires { ⌜ (count ≤ 64) × (length maps ≡ 64) ⌝ }
     requires { ⌜ Within (moved b (12 + 12 * count) 6 1) (length (now out)) ⌝ }
     ensures { λ _. ⌜ now (out .exit) ≡ over (now (out .entry)) (b .at) (sectionBytes (b .strings) count (take count maps)) ⌝ }
 {
     let size = spans::maps_size(maps, count);
-    let begun = b.add_datasec(out, 5, size as u32, count as u32);
+    let begun = b.add_datasec(out, Section::MAPS_NAME_LEN, size as u32, count as u32);
     add_entries(begun, out, maps, count);
 }
 
@@ -123,7 +141,7 @@ fn add_maps_section(b: BtfBuilder, out: &mut [u8], maps: [MapDecl; 64], count: u
 fn put_types<'a>(
     out: &mut [u8],
     text: &[u8],
-    maps: [MapDecl; 64],
+    maps: [MapDecl; BpfObject::MAPS],
     ats: &'a [u16],
     lens: &'a [u16],
     count: usize,
@@ -137,7 +155,7 @@ fn put_types<'a>(
     add_maps_section(done, out, maps, count);
 }
 
-// The section's header: the types begin behind it, and the strings behind the types.
+// The section's header: the types begin after it, and the strings after the types.
 fn put_header(out: &mut [u8], types: usize, strings: usize)
     requires { ⌜ length (now out) ≡ 24 ⌝ }
     ensures { λ _. ⌜ now (out .exit) ≡ headerBytes types strings ⌝ }
@@ -146,7 +164,7 @@ fn put_header(out: &mut [u8], types: usize, strings: usize)
         BtfBuilder::MAGIC,
         BtfBuilder::VERSION,
         0,
-        24,
+        BtfBuilder::HEADER as u64,
         0,
         types as u64,
         types as u64,
@@ -159,7 +177,7 @@ fn put_header(out: &mut [u8], types: usize, strings: usize)
 pub fn build_btf<'a>(
     out: &mut [u8],
     text: &[u8],
-    maps: [MapDecl; 64],
+    maps: [MapDecl; BpfObject::MAPS],
     ats: &'a [u16],
     lens: &'a [u16],
     count: usize,
@@ -172,7 +190,14 @@ pub fn build_btf<'a>(
 {
     let n = out.len();
     let at = BtfBuilder::HEADER + types;
-    put_header(&mut out[0..24], types, n - at);
-    put_types(&mut out[24..at], text, maps, ats, lens, count);
+    put_header(&mut out[0..BtfBuilder::HEADER], types, n - at);
+    put_types(
+        &mut out[BtfBuilder::HEADER..at],
+        text,
+        maps,
+        ats,
+        lens,
+        count,
+    );
     strings::put_strings(&mut out[at..n], text, maps, ats, lens, count);
 }

@@ -2,11 +2,11 @@
 use mathlib.Core.Path.{_≡_, refl, sym, _∙_, ap}
 use Prim.Native.Nat.{ℕ}
 use Rattle.octets.proofs.Single.{OneResult}
-use Rattle.utf8.specs.Utf8 as text
-use Rattle.utf8.specs.Wait.{waitOf, nextOf}
+use Rattle.utf8.specs.Wait.{waitOf, decodedTold}
 use Rattle.utf8.specs.declared.Wait.{Wait}
-use Rattle.utf8.specs.declared.Next.{Next}
-use Rattle.utf8.specs.declared.Next.the-variants.{Point, More, Bad}
+use Rattle.utf8.specs.declared.Decoded.{Decoded}
+use Rattle.utf8.specs.declared.Decoded.the-variants.{Takes, Bad}
+use Rattle.utf8.specs.declared.Stepped.{Stepped}
 use Rattle.utf8.proofs.Wait.idle.Kinds as idle-kinds
 use Rattle.utf8.proofs.Wait.idle.Reads as idle
 use Rattle.utf8.proofs.step.Kinds as step-kinds
@@ -25,24 +25,18 @@ idle-single κs a z z′ e e′ p p′ = p ∙ sym p′
 wait-once : (w v : Wait) → waitOf w ≡ waitOf v → w ≡ v
 wait-once w v e = λ i. record { left = e i .left; bits = e i .bits; least = e i .least }
 
-abbrev waits : text.Next → text.Wait
-waits (text.point c) = text.idle
-waits (text.more w) = w
-waits text.bad = text.idle
+decoded-once : (r s : Decoded) → decodedTold r ≡ decodedTold s → r ≡ s
+decoded-once (Takes n) (Takes m) e = cc
+decoded-once (Takes n) Bad e = cc
+decoded-once Bad (Takes m) e = cc
+decoded-once Bad Bad e = refl
 
-next-once : (r s : Next) → nextOf r ≡ nextOf s → r ≡ s
-next-once (Point c) (Point d) e = cc
-next-once (Point c) (More v) e = cc
-next-once (Point c) Bad e = cc
-next-once (More w) (Point d) e = cc
-next-once (More w) (More v) e = ap More (wait-once w v (ap waits e))
-next-once (More w) Bad e = cc
-next-once Bad (Point d) e = cc
-next-once Bad (More v) e = cc
-next-once Bad Bad e = refl
+stepped-once : (r s : Stepped) → r .answer ≡ s .answer → r .wait ≡ s .wait → r ≡ s
+stepped-once r s e f = λ i. record { answer = e i; wait = f i }
 
 step-single : OneResult step-kinds.ps step-kinds.r step.Post
-step-single κs a z z′ e e′ p p′ = next-once z z′ (p .0 ∙ sym (p′ .0))
+step-single κs a z z′ e e′ p p′ =
+    stepped-once z z′ (decoded-once _ _ (p .0 ∙ sym (p′ .0))) (wait-once _ _ (p .1 .0 ∙ sym (p′ .1 .0)))
 
 is-ascii-single : OneResult is-ascii-kinds.ps is-ascii-kinds.r is-ascii.Post
 is-ascii-single κs a z z′ e e′ p p′ = p ∙ sym p′

@@ -1,5 +1,4 @@
--- Text: UTF-8 as RFC 3629 gives it. A text is read byte by byte, and each byte ends a code point, leaves one unfinished, or may not
--- stand where it stands.
+-- Text: UTF-8 as RFC 3629 gives it. A text is read byte by byte. Each byte ends a code point, leaves one unfinished, or is not allowed.
 use mathlib.Core.Bool.{Bool, true, false, cond, not, _&&_, _||_}
 use mathlib.Core.Option.{Option, none, some}
 use mathlib.Core.List.{List, [], _∷_}
@@ -7,8 +6,8 @@ use Prim.Native.Nat.{ℕ, _+_, _-_, _*_, _%_}
 use lib.Dec.{leb, eqb}
 use Rattle.octets.specs.Octets.{within}
 
--- Where a text stands between two bytes: a code point of which `left` continuation bytes are still to come, whose bits so far
--- are `bits`, and which is overlong below `least`. With nothing to come the next byte leads.
+-- The state between two bytes of a text: a code point of which `left` continuation bytes are still to come, whose bits so far are `bits`,
+-- and which is overlong below `least`. With nothing to come the next byte leads.
 pub record Wait : Type 0 where
   pub left : ℕ
   pub bits : ℕ
@@ -17,7 +16,7 @@ pub record Wait : Type 0 where
 abbrev pub idle : Wait
 idle = record { left = 0; bits = 0; least = 0 }
 
--- what a byte does there: it ends a code point, it leaves one unfinished, or it may not stand there
+-- what a byte does in that state: it ends a code point, leaves one unfinished, or is not allowed
 pub data Next : Type 0 where
   point : ℕ → Next
   more : Wait → Next
@@ -51,13 +50,13 @@ abbrev pub put : ℕ → Option (List ℕ) → Option (List ℕ)
 put c none = none
 put c (some cs) = some (c ∷ cs)
 
--- the code points of what follows, from a place between two bytes on
+-- the code points of what follows, from a state between two bytes on
 abbrev pub pointsFrom : Wait → List ℕ → Option (List ℕ)
 pointsFrom w [] = cond (eqb (w .left) 0) (some []) none
 pointsFrom w (b ∷ bs) =
     elim (next w b) [ point c ↦ put c (pointsFrom idle bs) | more w′ ↦ pointsFrom w′ bs | bad ↦ none ]
 
--- the code points of a text, or none where the bytes are no UTF-8
+-- the code points of a text, or none if the bytes are not UTF-8
 abbrev pub points : List ℕ → Option (List ℕ)
 points bs = pointsFrom idle bs
 

@@ -5,20 +5,31 @@ ghost use Prim.Native.Nat.{_+_, _≤_, _<_};
 ghost use lib.Dec.{leb};
 ghost use Rattle.lines.specs.Hex.{isHex, bytesIn};
 ghost use Rattle.utf8.specs.Utf8.{allowed, leads, continues, next, isText, allAscii, hasZero};
-ghost use Rattle.utf8.specs.Wait.{idleWait, waitOf, nextOf, Fine, FineNext};
+ghost use Rattle.utf8.specs.Wait.{idleWait, waitOf, Fine, stepTold, nextTold, waitAfter, steppedPoint, steppedMore, steppedBad};
 
-// Where a text stands between two bytes: a code point of which `left` bytes are still to come.
+// The state between two bytes of a text: a code point of which `left` bytes are still to come.
 pub struct Wait {
     pub left: u32,
     pub bits: u32,
     pub least: u32,
 }
 
-// What a byte does there.
+// What a byte that may come there gives: the code point that it ends, or that more bytes of one are to come.
 pub enum Next {
     Point(u32),
-    More(Wait),
+    More,
+}
+
+// Whether a byte may come there.
+pub enum Decoded {
+    Takes(Next),
     Bad,
+}
+
+// What a byte does there, and what is awaited after it. A byte that may not come there changes nothing.
+pub struct Stepped {
+    pub answer: Decoded,
+    pub wait: Wait,
 }
 
 impl Wait {
@@ -30,6 +41,38 @@ impl Wait {
             left: 0,
             bits: 0,
             least: 0,
+        }
+    }
+}
+
+impl Stepped {
+    // The byte ends the code point `c`.
+    fn point(c: u32) -> Self
+        ensures { λ r. ⌜ r ≡ steppedPoint c ⌝ }
+    {
+        Stepped {
+            answer: Decoded::Takes(Next::Point(c)),
+            wait: Wait::idle(),
+        }
+    }
+
+    // The byte leaves a code point unfinished.
+    fn more(wait: Wait) -> Self
+        ensures { λ r. ⌜ r ≡ steppedMore wait ⌝ }
+    {
+        Stepped {
+            answer: Decoded::Takes(Next::More),
+            wait,
+        }
+    }
+
+    // The byte may not come where `wait` is awaited.
+    fn bad(wait: Wait) -> Self
+        ensures { λ r. ⌜ r ≡ steppedBad wait ⌝ }
+    {
+        Stepped {
+            answer: Decoded::Bad,
+            wait,
         }
     }
 }
@@ -50,80 +93,84 @@ fn is_allowed(least: u32, c: u32) -> bool
     c <= 0x10ffff
 }
 
-// A byte where none is awaited.
-fn lead(b: u8) -> Next
-    ensures { λ r. ⌜ nextOf r ≡ leads b ⌝ }
-    ensures { λ r. ⌜ FineNext r ⌝ }
+// A byte when no continuation is awaited.
+fn lead(w: Wait, b: u8) -> Stepped
+    requires { ⌜ Fine w ⌝ }
+    ensures { λ r. ⌜ stepTold r ≡ nextTold (leads b) ⌝ }
+    ensures { λ r. ⌜ waitOf (r .wait) ≡ waitAfter (waitOf w) (leads b) ⌝ }
+    ensures { λ r. ⌜ Fine (r .wait) ⌝ }
 {
     let v = b as u32;
     if v <= 0x7f {
-        return Next::Point(v);
+        return Stepped::point(v);
     }
     if v < 0xc0 {
-        return Next::Bad;
+        return Stepped::bad(w);
     }
     if v <= 0xdf {
-        return Next::More(Wait {
+        return Stepped::more(Wait {
             left: 1,
             bits: v & 0x1f,
             least: 0x80,
         });
     }
     if v <= 0xef {
-        return Next::More(Wait {
+        return Stepped::more(Wait {
             left: 2,
             bits: v & 0x0f,
             least: 0x800,
         });
     }
     if v <= 0xf7 {
-        return Next::More(Wait {
+        return Stepped::more(Wait {
             left: 3,
             bits: v & 0x07,
             least: 0x1_0000,
         });
     }
-    Next::Bad
+    Stepped::bad(w)
 }
 
-// A byte where a continuation is awaited.
-fn proceed(w: Wait, b: u8) -> Next
+// A byte when a continuation is awaited.
+fn proceed(w: Wait, b: u8) -> Stepped
     requires { ⌜ (1 ≤ w .left) × Fine w ⌝ }
-    ensures { λ r. ⌜ nextOf r ≡ continues (waitOf w) b ⌝ }
-    ensures { λ r. ⌜ FineNext r ⌝ }
+    ensures { λ r. ⌜ stepTold r ≡ nextTold (continues (waitOf w) b) ⌝ }
+    ensures { λ r. ⌜ waitOf (r .wait) ≡ waitAfter (waitOf w) (continues (waitOf w) b) ⌝ }
+    ensures { λ r. ⌜ Fine (r .wait) ⌝ }
 {
     let v = b as u32;
     if v < 0x80 {
-        return Next::Bad;
+        return Stepped::bad(w);
     }
     if 0xbf < v {
-        return Next::Bad;
+        return Stepped::bad(w);
     }
     let c = (w.bits << 6) | (v & 0x3f);
     let left = w.left;
     let least = w.least;
     if left == 1 {
         if is_allowed(least, c) {
-            return Next::Point(c);
+            return Stepped::point(c);
         }
-        return Next::Bad;
+        return Stepped::bad(w);
     }
-    Next::More(Wait {
+    Stepped::more(Wait {
         left: left - 1,
         bits: c,
         least,
     })
 }
 
-// What a byte does where a text stands.
-pub fn step(w: Wait, b: u8) -> Next
+// What a byte does in any state.
+pub fn step(w: Wait, b: u8) -> Stepped
     requires { ⌜ Fine w ⌝ }
-    ensures { λ r. ⌜ nextOf r ≡ next (waitOf w) b ⌝ }
-    ensures { λ r. ⌜ FineNext r ⌝ }
+    ensures { λ r. ⌜ stepTold r ≡ nextTold (next (waitOf w) b) ⌝ }
+    ensures { λ r. ⌜ waitOf (r .wait) ≡ waitAfter (waitOf w) (next (waitOf w) b) ⌝ }
+    ensures { λ r. ⌜ Fine (r .wait) ⌝ }
 {
     let left = w.left;
     if left == 0 {
-        return lead(b);
+        return lead(w, b);
     }
     proceed(w, b)
 }
@@ -164,22 +211,17 @@ fn is_utf8(s: &[u8]) -> bool
     while i < n {
         let b = lines::byte_at(s, i);
         i += 1;
-        match step(w, b) {
-            Next::Point(_) => {
-                w = Wait::idle();
-            }
-            Next::More(v) => {
-                w = v;
-            }
-            Next::Bad => {
-                return false;
-            }
-        }
+        let stepped = step(w, b);
+        let answer = stepped.answer;
+        let Decoded::Takes(_) = answer else {
+            return false;
+        };
+        w = stepped.wait;
     }
     w.left == 0
 }
 
-// Whether the bytes of the hexadecimal `s` are UTF-8. Most texts are ASCII, and those need no look at each byte by itself.
+// Whether the bytes of the hexadecimal `s` are UTF-8. Most texts are ASCII, which is seen without a look at each byte by itself.
 pub fn is_text(s: &[u8]) -> bool
     requires { ⌜ isHex (now s) ≡ true ⌝ }
     ensures { λ r. ⌜ r ≡ isText (bytesIn (now (s .entry))) ⌝ }
@@ -190,7 +232,7 @@ pub fn is_text(s: &[u8]) -> bool
     is_utf8(s)
 }
 
-// Whether a zero byte stands among the bytes of the hexadecimal `s`.
+// Whether the hexadecimal `s` has a zero byte.
 pub fn has_zero(s: &[u8]) -> bool
     requires { ⌜ isHex (now s) ≡ true ⌝ }
     ensures { λ r. ⌜ r ≡ hasZero (bytesIn (now (s .entry))) ⌝ }

@@ -28,7 +28,7 @@ written-some (c ∷ cs) e = ap suc (rest-length cs)
 pub later-on : (s : List ℕ) (i : ℕ) → i < length s → restWritten (drop i s) ≡ charAt 1 (getD s i 0) ∷ restWritten (drop (i + 1) s)
 later-on s i h = ap restWritten (read-on s i h)
 
--- the first anew, where all are written as later ones
+-- the first again, when all are written as later ones
 pub first-anew : (s out : List ℕ) (x : ℕ) → 0 < length s → out ≡ restWritten s → x ≡ charAt 0 (getD s 0 0) → set out 0 x ≡ writtenPoints s
 first-anew [] out x h e f = absurd (omega arith)
 first-anew (c ∷ cs) out x h e f = rw (e, f)

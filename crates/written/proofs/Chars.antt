@@ -74,7 +74,7 @@ rest-end (suc n) e = refl
 pub len-end : (n : ℕ) → (n ≡ 0 → ⊥) → lenOf n (some []) ≡ n
 len-end n e = rw (rest-end n e) (omega arith)
 
--- where a byte is still to come there is room for it
+-- if a byte is still to come, there is room for it
 pub room : {whole : List ℕ} (out later : List ℕ) (n x : ℕ) → length out ≡ length whole → whole ≡ take n out ++ (x ∷ later) → n < length out
 room {whole} out later n x e w =
     let l : length whole ≡ length (take n out) + suc (length later) = ap length w ∙ length-append (take n out) (x ∷ later) in
@@ -87,7 +87,7 @@ full whole out n e w =
     let m : length (take n out) ≡ min n (length out) = length-take n out in
     omega arith
 
--- what comes next where the text goes on with the code point `c`
+-- what comes next when the text goes on with the code point `c`
 module _ (whole out : List ℕ) (n c : ℕ) (p o : Option (List ℕ)) (e : p ≡ put c o) (k : ok p ≡ true) where
   pub ok-next : ok o ≡ true
   ok-next = sym (ok-put c o) ∙ ap ok (sym e) ∙ k

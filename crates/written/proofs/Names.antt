@@ -1,4 +1,4 @@
--- Written names are no longer than the bound that the raw name keeps, and hold no zero byte: a table of strings ends each one by a zero.
+-- Written names keep the bound of the raw name, and have no zero byte: a string table ends each one by a zero.
 use mathlib.Core.Path.{_≡_, refl, ap}
 use mathlib.Core.Bool.{Bool, true, false, cond}
 use mathlib.Core.Option.{Option, none, some}

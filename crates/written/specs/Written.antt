@@ -14,7 +14,7 @@ letter c = within 65 90 c || within 97 122 c || eqb c 95
 abbrev pub letterOrDigit : ℕ → Bool
 letterOrDigit c = letter c || within 48 57 c
 
--- a later character becomes itself, where it is a letter, `_` or a digit, or one `_`
+-- a later character becomes itself if it is a letter, `_` or a digit, else one `_`
 abbrev pub restWritten : List ℕ → List ℕ
 restWritten [] = []
 restWritten (c ∷ cs) = cond (letterOrDigit c) c 95 ∷ restWritten cs
@@ -22,7 +22,7 @@ restWritten (c ∷ cs) = cond (letterOrDigit c) c 95 ∷ restWritten cs
 abbrev pub unnamed : List ℕ
 unnamed = ascii "_solnix_symbol"
 
--- the first character becomes itself, where it is a letter or `_`, or one `_`; an empty name becomes "_solnix_symbol"
+-- the first character becomes itself if it is a letter or `_`, else one `_`; an empty name becomes "_solnix_symbol"
 abbrev pub writtenPoints : List ℕ → List ℕ
 writtenPoints [] = unnamed
 writtenPoints (c ∷ cs) = cond (letter c) c 95 ∷ restWritten cs

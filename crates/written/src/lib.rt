@@ -7,6 +7,7 @@ ghost use lib.ListN.{length};
 ghost use Rattle.utf8.specs.Utf8.{isText, allAscii};
 ghost use Rattle.written.specs.Written.{letter, letterOrDigit, written, writtenPoints, unnamed};
 ghost use Rattle.written.specs.Name.{charAt};
+use utf8::Decoded;
 use utf8::Next;
 use utf8::Wait;
 
@@ -57,6 +58,13 @@ pub fn written_char(c: u32, n: usize) -> u8
     b'_'
 }
 
+// What an empty name is written as, `_solnix_symbol`.
+pub struct Unnamed {}
+
+impl Unnamed {
+    pub const LEN: usize = 14;
+}
+
 // What an empty name is written as.
 fn put_unnamed(out: &mut [u8])
     requires { ⌜ length (now out) ≡ 14 ⌝ }
@@ -88,8 +96,9 @@ fn is_ascii(s: &[u8]) -> bool
     high == 0
 }
 
-// How long the written name of `s` is, by its code points.
+// How long the written name of the text `s` is, by its code points.
 fn points_len(s: &[u8]) -> usize
+    requires { ⌜ isText (now s) ≡ true ⌝ }
     ensures { λ r. ⌜ r ≡ length (written (now (s .entry))) ⌝ }
 {
     let mut w = Wait::idle();
@@ -98,36 +107,34 @@ fn points_len(s: &[u8]) -> usize
     while i < s.len() {
         let b = s[i];
         i += 1;
-        match utf8::step(w, b) {
+        let stepped = utf8::step(w, b);
+        let answer = stepped.answer;
+        let Decoded::Takes(next) = answer else {
+            return n;
+        };
+        w = stepped.wait;
+        match next {
             Next::Point(_) => {
                 n += 1;
-                w = Wait::idle();
             }
-            Next::More(v) => {
-                w = v;
-            }
-            Next::Bad => {
-                return 0;
-            }
+            Next::More => {}
         }
     }
-    let left = w.left;
-    if left != 0 {
-        return 0;
-    }
     if n == 0 {
-        return 14;
+        return Unnamed::LEN;
     }
     n
 }
 
-// How long the written name of `s` is. Most names are ASCII, and the written name is then as long as the name, but for the empty one.
+// How long the written name of the text `s` is. Most names are ASCII, and the written name is then as long as the name, but for the empty
+// one.
 pub fn written_len(s: &[u8]) -> usize
+    requires { ⌜ isText (now s) ≡ true ⌝ }
     ensures { λ r. ⌜ r ≡ length (written (now (s .entry))) ⌝ }
 {
     if is_ascii(s) {
         if s.len() == 0 {
-            return 14;
+            return Unnamed::LEN;
         }
         return s.len();
     }
@@ -151,8 +158,8 @@ fn later_char(c: u8) -> u8
     b'_'
 }
 
-// The written name of ASCII characters, of which there is at least one. All are written as later ones are, so that the compiler takes
-// many at a time, and then the first anew.
+// The written name of ASCII characters, of which there is at least one. All are written as later ones are, so that the compiler takes many
+// at a time; then the first is written again.
 fn put_later(out: &mut [u8], s: &[u8])
     requires { ⌜ (length (now out) ≡ length (now s)) × (0 < length (now s)) ⌝ }
     ensures { λ _. ⌜ now (out .exit) ≡ writtenPoints (now (s .entry)) ⌝ }
@@ -189,18 +196,18 @@ fn put_points(out: &mut [u8], s: &[u8])
     while i < s.len() {
         let b = s[i];
         i += 1;
-        match utf8::step(w, b) {
+        let stepped = utf8::step(w, b);
+        let answer = stepped.answer;
+        let Decoded::Takes(next) = answer else {
+            return;
+        };
+        w = stepped.wait;
+        match next {
             Next::Point(c) => {
                 out[n] = written_char(c, n);
                 n += 1;
-                w = Wait::idle();
             }
-            Next::More(v) => {
-                w = v;
-            }
-            Next::Bad => {
-                return;
-            }
+            Next::More => {}
         }
     }
     if n == 0 {

@@ -1,6 +1,6 @@
--- `bodies::put_code` meets its contract. The loop keeps where the next line starts, that the lines that are left are frames, and that the
--- code of those before them is there. Assumes nothing.
-use mathlib.Core.Path.{_≡_, refl, sym, _∙_}
+-- `bodies::put_code` meets its contract. The loop's invariant: where the next line starts, that the lines left are frames, and that the
+-- code of those before them is written. Assumes nothing.
+use mathlib.Core.Path.{_≡_, refl, sym, _∙_, ap}
 use mathlib.Core.List.{List, [], _++_}
 use Prim.Native.Nat.{ℕ, _+_, _-_, _≤_, _<_}
 use native.Mathlib.Omega.{arith}
@@ -8,9 +8,9 @@ use lib.ListN.{length, take, drop}
 use borrow.Author.Needs.{needs}
 use Rattle.octets.proofs.Filling.{Filling, fill-start, fill-as, fill-room, fill-on, fill-done}
 use Rattle.lines.specs.Lines.{lines as rows}
-use Rattle.lines.specs.Ends.{lineEnd}
+use Rattle.lines.specs.Ends.{lineEnd, endTold}
 use Rattle.lines.specs.Hex.{bytesIn}
-use Rattle.lines.specs.declared.LineEnd.the-variants.{Ended}
+use Rattle.octets.specs.Told.{gives}
 use Rattle.lines.proofs.Laws.{line-ended}
 use Rattle.frames.specs.Frames.{frameOf}
 use Rattle.object.specs.Read.{frameCode, codeOf, body}
@@ -28,25 +28,25 @@ abbrev μ-loop : tie.MeasureT-loop
 μ-loop out₀ text from lines i₀ at₀ start₀ out i at start = lines - i
 
 -- the text, where the line starts, and where it ends
-abbrev text : tie.After-end Inv-loop μ-loop → List ℕ
+abbrev text : tie.After-ended Inv-loop μ-loop → List ℕ
 text d = d .before .before .before .before .before .before .before .args .text .now
 
-abbrev first : tie.After-end Inv-loop μ-loop → ℕ
+abbrev first : tie.After-ended Inv-loop μ-loop → ℕ
 first d = d .before .before .before .before .loop .start
 
-abbrev last : tie.After-end Inv-loop μ-loop → ℕ
-last d = d .end .given .0 .0
+abbrev last : tie.After-ended Inv-loop μ-loop → ℕ
+last d = d .ended .given .0 .0
 
-ends : (d : tie.After-end Inv-loop μ-loop) → lineEnd (text d) (first d) ≡ Ended (last d)
-ends d = sym (d .before .before .line-end .ensures) ∙ d .end .given .1
+ends : (d : tie.After-ended Inv-loop μ-loop) → lineEnd (text d) (first d) ≡ gives (last d)
+ends d = sym (d .before .before .line-end .ensures) ∙ ap endTold (d .ended .given .1)
 
-bounds : (d : tie.After-end Inv-loop μ-loop) → (first d ≤ last d) × (last d < length (text d))
+bounds : (d : tie.After-ended Inv-loop μ-loop) → (first d ≤ last d) × (last d < length (text d))
 bounds d = let r = line-ended (text d) (first d) (last d) (ends d) in (r .0, r .1)
 
-abbrev piece : tie.After-end Inv-loop μ-loop → List ℕ
+abbrev piece : tie.After-ended Inv-loop μ-loop → List ℕ
 piece d = take (last d - first d) (drop (first d) (text d))
 
-here : (d : tie.After-end Inv-loop μ-loop)
+here : (d : tie.After-ended Inv-loop μ-loop)
     → let a = d .before .before .before .before .before .before .before .args in Turn (text d) (a .from) (a .lines) (d .before .before .before .before .loop .i) (piece d) (last d + 1)
 here d =
     let q = d .before .before .before in
@@ -55,15 +55,15 @@ here d =
     turn (text d) (a .from) (a .lines) (l .i) (first d) (q .loop-test .taken) (l .inv .1) (l .inv .2) (last d) (ends d)
 
 -- the code that the line adds, and what then is still to come
-abbrev added : tie.After-end Inv-loop μ-loop → List ℕ
+abbrev added : tie.After-ended Inv-loop μ-loop → List ℕ
 added d = frameCode (frameOf (bytesIn (piece d)))
 
-abbrev later : tie.After-end Inv-loop μ-loop → List ℕ
+abbrev later : tie.After-ended Inv-loop μ-loop → List ℕ
 later d =
     let a = d .before .before .before .before .before .before .before .args in
     codeOf (drop (d .before .before .before .before .loop .i + 1) (body (text d) (a .from) (a .lines)))
 
-filling : (d : tie.After-end Inv-loop μ-loop)
+filling : (d : tie.After-ended Inv-loop μ-loop)
     → let l = d .before .before .before .before .loop in
     let a = d .before .before .before .before .before .before .before .args in Filling (codeOf (body (text d) (a .from) (a .lines))) (l .out) (l .at) (added d ++ later d)
 filling d = fill-as (added d ++ later d) (here d .code) (d .before .before .before .before .loop .inv .3)
@@ -86,7 +86,7 @@ returns c =
     let p = q .before .before .before .before in
     absurd
     (not-cut (p .args .text .now) (p .args .from) (p .args .lines) (l .i) (l .start) (q .loop-test .taken) (l .inv .1) (l .inv .2) (p .pre .0)
-    (sym (e .line-end .ensures) ∙ c .enum-told .given .1))
+    (sym (e .line-end .ensures) ∙ ap endTold (c .enum-told .given .1)))
 
 sub-put-frame : tie.Need-sub-put-frame Inv-loop μ-loop
 sub-put-frame c = omega (arith, bounds (c .before .before))

@@ -1,4 +1,4 @@
--- `btf::btf_map_size` meets its contract. It needs no file: this one has the log of a wrong answer show where the promise fails. Assumes nothing.
+-- `btf::btf_map_size` meets its contract. No file is needed: with it a wrong answer's log shows where the promise fails. Assumes nothing.
 use native.Mathlib.Omega.{arith}
 use borrow.Author.Needs.{needs}
 use Rattle.btf.proofs.btf_map_size.Statement.{statement}

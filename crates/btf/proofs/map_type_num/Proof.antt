@@ -1,4 +1,4 @@
--- `btf::map_type_num` meets its contract. It needs no file: this one has the log of a wrong answer show the two sides. Assumes nothing.
+-- `btf::map_type_num` meets its contract. No file is needed: with it a wrong answer's log shows both sides. Assumes nothing.
 use mathlib.Core.Path.{refl}
 use borrow.Author.Needs.{needs}
 use Rattle.btf.proofs.map_type_num.Statement.{statement}

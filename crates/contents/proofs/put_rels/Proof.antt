@@ -1,5 +1,5 @@
--- `contents::put_rels` meets its contract. The loop keeps that the slots that are left are placed, and that the entries of those before them
--- are there. Assumes nothing.
+-- `contents::put_rels` meets its contract. The loop's invariant: the slots left are placed, and the entries of those before them are
+-- written. Assumes nothing.
 use mathlib.Core.Path.{_≡_, refl}
 use mathlib.Core.List.{List, [], _++_}
 use Prim.Native.Nat.{ℕ, _+_, _-_, _*_, _≤_}

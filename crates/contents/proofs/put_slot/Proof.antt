@@ -29,5 +29,5 @@ put-slot-spec =
     (tie.spec
     (search needs) (search needs) (search needs) (search needs)
     number-at-requires
-    (search needs) (search needs) (search needs)
+    (search needs) (search needs) (search needs) (search needs)
     returns)

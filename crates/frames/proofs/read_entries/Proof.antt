@@ -1,11 +1,12 @@
 -- `frames::read_entries` meets its contract. Assumes nothing.
-use mathlib.Core.Path.{sym, _∙_, ap, subst}
-use Prim.Native.Nat.{_≤_}
+use mathlib.Core.Path.{sym, _∙_, ap}
 use native.Mathlib.Omega.{arith}
-use lib.ListN.{length, drop}
+use lib.ListN.{drop}
 use borrow.Author.Needs.{needs}
 use Rattle.lines.specs.Hex.{bytesIn}
-use Rattle.frames.specs.Attrs.{countOf, CountIn}
+use Rattle.frames.specs.Attrs.{countIs}
+use Rattle.octets.specs.Told.{told}
+use Rattle.octets.proofs.Told.{told-there, told-none}
 use Rattle.frames.proofs.Laws.{entries-none, entries-some}
 use Rattle.frames.proofs.read_entries.Statement.{statement}
 use Rattle.frames.proofs.read_entries.Tie as tie
@@ -17,18 +18,17 @@ returns : tie.Need-returns
 returns c =
     let a = c .before .before .before .before .args in
     let s = bytesIn (a .s .now) in
-    (entries-none (a .map-type) (a .key-type) (a .value-type) (a .p) (drop (a .at) s) (sym (ap (countOf s) (c .enum-told .given .1)) ∙ c .before .before .read-count .ensures .0), tt)
+    let r = c .before .before .read-count in
+    (ap (told 3) (entries-none (a .map-type) (a .key-type) (a .value-type) (a .p) (drop (a .at) s) (sym (told-none 3 3 _ (sym (ap (countIs s (r .result .next)) (c .enum-told .given .1)) ∙ r .ensures .0)))), tt)
 
 returns-2 : tie.Need-returns-2
 returns-2 c =
     let d = c .before in
-    let b = d .before .before in
-    let p = b .before .before in
-    let a = p .args in
+    let a = d .before .before .before .before .args in
     let s = bytesIn (a .s .now) in
-    let n = d .read .given .0 .1 .0 in
-    let l : (a .at ≤ n) × (n ≤ length s) = subst (CountIn (a .at) s) (d .read .given .1) (b .read-count .ensures .1) in
-    (entries-some (a .map-type) (a .key-type) (a .value-type) (a .p) (drop (a .at) s) _ (sym (ap (countOf s) (d .read .given .1)) ∙ b .read-count .ensures .0), (omega arith, l .1))
+    let r = d .before .before .read-count in
+    let e = told-there 3 _ _ (sym (ap (countIs s (r .result .next)) (d .answer .given .1)) ∙ r .ensures .0) in
+    (ap (told 3) (entries-some (a .map-type) (a .key-type) (a .value-type) (a .p) (drop (a .at) s) _ (sym e)), (omega (arith, r .ensures .1), r .ensures .1 .1))
 
 pub read-entries-spec : {M : Type 1} → statement M
 read-entries-spec = tie.close (tie.spec read-count-requires (search needs) (search needs) returns returns-2)

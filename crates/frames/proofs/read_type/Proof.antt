@@ -5,7 +5,9 @@ use borrow.Author.Needs.{needs}
 use borrow.Author.Tests.{not-true, not-false}
 use Rattle.lines.specs.Hex.{bytesIn}
 use Rattle.lines.proofs.Bytes.{bytes-length}
-use Rattle.frames.specs.Attrs.{numberOf}
+use Rattle.octets.specs.Told.{told}
+use Rattle.octets.proofs.Told.{told-there, told-none}
+use Rattle.frames.specs.Attrs.{numberTold}
 use Rattle.frames.proofs.Laws.{take-none, take-some, take-end}
 use Rattle.frames.proofs.read_type.Statement.{statement}
 use Rattle.frames.proofs.read_type.Tie as tie
@@ -18,7 +20,7 @@ returns-2 c =
     let p = c .before .before .before in
     let a = p .args in
     let l = bytes-length (a .s .now) (p .pre .0) in
-    (rw (not-false (a .there) (c .before .if1 .left)) (take-end (bytesIn (a .s .now)) (a .at) (omega arith)), tt)
+    (rw (not-false (a .there) (c .before .if1 .left)) (ap (told 3) (take-end (bytesIn (a .s .now)) (a .at) (omega arith))), (search needs, p .pre .1))
 
 byte-at-requires : tie.Need-byte-at-requires
 byte-at-requires c κs =
@@ -31,11 +33,14 @@ returns-3 c =
     let p = b .before .before .before .before in
     let a = p .args in
     let l = bytes-length (a .s .now) (p .pre .0) in
-    let e = sym (c .before .before .member-type-of .ensures) ∙ ap numberOf (c .enum-told .given .1) in
-    (rw (not-false (a .there) (b .before .before .if1 .left)) (take-none (bytesIn (a .s .now)) (a .at) _ (b .byte-at .ensures) (omega (arith, b .before .if2 .left)) e), tt)
+    let e = told-none 3 3 _ (sym (ap numberTold (c .enum-told .given .1)) ∙ c .before .before .member-type-of .ensures) in (
+      rw (not-false (a .there) (b .before .before .if1 .left))
+          (ap (told 3) (take-none (bytesIn (a .s .now)) (a .at) _ (b .byte-at .ensures) (omega (arith, b .before .if2 .left)) e)),
+      (search needs, p .pre .1),
+    )
 
-add-t8 : tie.Need-add-t8
-add-t8 c =
+add-next : tie.Need-add-next
+add-next c =
     let b = c .before .before .before .before in
     let p = b .before .before .before .before in
     let l = bytes-length (p .args .s .now) (p .pre .0) in
@@ -47,13 +52,13 @@ returns-4 c =
     let p = b .before .before .before .before in
     let a = p .args in
     let l = bytes-length (a .s .now) (p .pre .0) in
-    let e = sym (c .before .before .before .member-type-of .ensures) ∙ ap numberOf (c .before .read .given .1) in (
+    let e = told-there 3 _ _ (sym (ap numberTold (c .before .read .given .1)) ∙ c .before .before .before .member-type-of .ensures) in (
       rw (not-false (a .there) (b .before .before .if1 .left))
-          (take-some (bytesIn (a .s .now)) (a .at) _ _ (b .byte-at .ensures) (omega (arith, b .before .if2 .left)) e),
+          (ap (told 3) (take-some (bytesIn (a .s .now)) (a .at) _ _ (b .byte-at .ensures) (omega (arith, b .before .if2 .left)) e)),
       (omega arith, omega (arith, b .before .if2 .left)),
     )
 
 pub read-type-spec : {M : Type 1} → statement M
 read-type-spec =
     tie.close
-    (tie.spec returns returns-2 byte-at-requires (search needs) (search needs) (search needs) returns-3 add-t8 returns-4)
+    (tie.spec returns returns-2 byte-at-requires (search needs) (search needs) (search needs) returns-3 add-next returns-4)

@@ -20,7 +20,7 @@ put-name-requires c κs =
     let a = p .args in
     (p .pre .0, omega (arith, name-length (a .text .now) (a .name) (p .pre .0), p .pre .1))
 
--- the memory is as long as it was when the name is in it
+-- the memory has its old length once the name is in it
 long : (c : tie.After-put-name) → let a = c .before .before .before .before .args in length (c .put-name .last .0) ≡ length (a .out .now)
 long c =
     let p = c .before .before .before .before in

@@ -1,5 +1,5 @@
 -- `job::build` meets its contract. Assumes nothing.
-use mathlib.Core.Path.{_≡_, _∙_, ap}
+use mathlib.Core.Path.{_∙_, ap}
 use native.Mathlib.Omega.{arith}
 use borrow.Author.Needs.{needs}
 use Rattle.object.specs.declared.Added.{Added}
@@ -11,13 +11,13 @@ returns : tie.Need-returns
 returns c =
     let d = c .before in
     let a = d .before .before .before .before .args in
-    rw (d .before .before .declaration .given .1) (c .with-program .ensures ∙ ap (λ (x : Added). builtWith x (a .opened) (a .program)) (d .add-license .ensures))
+    rw (d .before .before .declaration .given .1) (c .with-program .ensures ∙ ap (λ (x : Added). builtWith x (a .opened) (a .program)) (d .add-license .ensures .0))
 
 returns-2 : tie.Need-returns-2
 returns-2 c =
     let d = c .before in
     let a = d .before .before .before .before .args in
-    rw (d .before .before .declaration2 .given .1) (c .with-program2 .ensures ∙ ap (λ (x : Added). builtWith x (a .opened) (a .program)) (d .add-map .ensures))
+    rw (d .before .before .declaration2 .given .1) (c .with-program2 .ensures ∙ ap (λ (x : Added). builtWith x (a .opened) (a .program)) (d .add-map .ensures .0))
 
 opened-at-requires : tie.Need-opened-at-requires
 opened-at-requires c κs = let p = c .before .before .before in (p .pre .1, omega (arith, p .pre .0 .few-slots))

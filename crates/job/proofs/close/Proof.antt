@@ -8,7 +8,7 @@ returns : tie.Need-returns
 returns c = simp (eq-eqb _ _ (c .if1 .taken))
 
 returns-2 : tie.Need-returns-2
-returns-2 c = c .add-program .ensures ∙ simp (ne-eqb _ _ (c .before .if1 .left))
+returns-2 c = c .add-program .ensures .0 ∙ simp (ne-eqb _ _ (c .before .if1 .left))
 
 pub close-spec : {M : Type 1} → statement M
 close-spec = tie.close (tie.spec returns (λ c κs. c .before .pre) returns-2)

@@ -5,31 +5,24 @@ use native.Mathlib.Omega.{arith}
 use lib.ListN.{length}
 use borrow.Author.Needs.{needs}
 use borrow.Author.Tests.{not-true, not-false}
-use Rattle.lines.specs.Ends.{lineEnd}
-use Rattle.lines.specs.declared.LineEnd.the-variants.{Ended}
+use Rattle.octets.specs.Told.{gives}
+use Rattle.lines.specs.Ends.{lineEnd, endTold}
 use Rattle.lines.proofs.Laws.{line-ended}
-use Rattle.job.specs.Walked.{Next}
-use Rattle.job.proofs.Lines.{cut-line, bad-line, good-line, part-long}
+use Rattle.job.proofs.Lines.{cut-line, bad-line, good-line}
 use Rattle.job.proofs.read_line.Statement.{statement}
 use Rattle.job.proofs.read_line.Tie as tie
 
 -- where the line ends
-ends : (c : tie.After-end) → lineEnd (c .before .before .before .before .args .text .now) (c .before .before .before .before .args .at) ≡ Ended (c .end .given .0 .0)
-ends c = sym (c .before .before .line-end .ensures) ∙ c .end .given .1
+ends : (c : tie.After-ended) → lineEnd (c .before .before .before .before .args .text .now) (c .before .before .before .before .args .at) ≡ gives (c .ended .given .0 .0)
+ends c = sym (c .before .before .line-end .ensures) ∙ ap endTold (c .ended .given .1)
 
-bounds : (c : tie.After-end) → (c .before .before .before .before .args .at ≤ c .end .given .0 .0) × (c .end .given .0 .0 < length (c .before .before .before .before .args .text .now))
-bounds c = let r = line-ended (c .before .before .before .before .args .text .now) (c .before .before .before .before .args .at) (c .end .given .0 .0) (ends c) in (r .0, r .1)
-
-next : (c : tie.Else1) → let d = c .before .before .before .before in Next (d .before .before .before .before .args .text .now) (d .before .before .before .before .args .at) (d .end .given .0 .0)
-next c =
-    let d = c .before .before .before .before in
-    let p = d .before .before .before .before in
-    good-line (p .args .text .now) (p .args .at) (d .end .given .0 .0) (p .pre .0) (ends d) (sym (c .before .is-frame .ensures) ∙ not-false _ (c .if1 .left))
+bounds : (c : tie.After-ended) → (c .before .before .before .before .args .at ≤ c .ended .given .0 .0) × (c .ended .given .0 .0 < length (c .before .before .before .before .args .text .now))
+bounds c = let r = line-ended (c .before .before .before .before .args .text .now) (c .before .before .before .before .args .at) (c .ended .given .0 .0) (ends c) in (r .0, r .1)
 
 returns : tie.Need-returns
 returns c =
     let p = c .before .before .before .before in
-    cut-line (p .args .text .now) (p .args .at) (p .pre .1) (sym (c .before .before .line-end .ensures) ∙ c .enum-told .given .1)
+    (cut-line (p .args .text .now) (p .args .at) (p .pre .1) (sym (c .before .before .line-end .ensures) ∙ ap endTold (c .enum-told .given .1)), p .pre .1)
 
 sub-is-frame : tie.Need-sub-is-frame
 sub-is-frame c = omega (arith, bounds (c .before))
@@ -44,26 +37,13 @@ returns-2 : tie.Need-returns-2
 returns-2 c =
     let d = c .before .before .before .before in
     let p = d .before .before .before .before in
-    bad-line (p .args .text .now) (p .args .at) (d .end .given .0 .0) (ends d) (sym (c .before .is-frame .ensures) ∙ not-true _ (c .if1 .taken))
-
-sub-read-frame : tie.Need-sub-read-frame
-sub-read-frame c = omega (arith, bounds (c .before .before .before .before))
-
-part-read-frame-start : tie.Need-part-read-frame-start
-part-read-frame-start c = omega (arith, bounds (c .before .before .before .before))
-
-part-read-frame-end : tie.Need-part-read-frame-end
-part-read-frame-end c = omega (arith, bounds (c .before .before .before .before))
-
-read-frame-requires : tie.Need-read-frame-requires
-read-frame-requires c κs =
-    let n = next (c .before) in
-    let d = c .before .before .before .before .before in
-    let p = d .before .before .before .before in
-    (n .framed .hex, omega (arith, n .framed .first, part-long (p .args .text .now) (p .args .at) (d .end .given .0 .0) (n .framed)))
+    (bad-line (p .args .text .now) (p .args .at) (d .ended .given .0 .0) (ends d) (sym (c .before .is-frame .ensures) ∙ not-true _ (c .if1 .taken)), p .pre .1)
 
 returns-3 : tie.Need-returns-3
-returns-3 c = let n = next (c .before .before) in (n, c .read-frame .ensures .0, c .read-frame .ensures .1)
+returns-3 c =
+    let d = c .before .before .before .before in
+    let p = d .before .before .before .before in
+    (good-line (p .args .text .now) (p .args .at) (d .ended .given .0 .0) (p .pre .0) (ends d) (sym (c .before .is-frame .ensures) ∙ not-false _ (c .if1 .left)), bounds d .1)
 
 pub read-line-spec : {M : Type 1} → statement M
 read-line-spec =
@@ -76,8 +56,4 @@ read-line-spec =
     part-is-frame-end
     (search needs)
     returns-2
-    sub-read-frame
-    part-read-frame-start
-    part-read-frame-end
-    read-frame-requires
     returns-3)

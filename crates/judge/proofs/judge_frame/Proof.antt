@@ -1,18 +1,16 @@
 -- `judge::judge_frame` meets its contract: one arm for each kind of frame. Assumes nothing.
-use mathlib.Core.Path.{_≡_, refl, sym, _∙_, ap, subst}
-use mathlib.Core.Option.{Option}
+use mathlib.Core.Path.{_≡_, refl, _∙_, ap, subst}
+use mathlib.Core.Option.{some}
 use mathlib.Core.List.{List}
-use Prim.Native.Nat.{ℕ, _+_, _-_, _*_, _≤_}
+use Prim.Native.Nat.{ℕ, _-_, _*_}
 use native.Mathlib.Omega.{arith}
 use lib.ListN.{length, drop, length-drop}
 use borrow.Author.Needs.{needs}
 use Rattle.lines.proofs.Parts.{line-length}
 use Rattle.frames.specs.Frames.{frameOf}
-use Rattle.frames.specs.Frames as model
 use Rattle.frames.specs.Shown.{shown, Placed}
 use Rattle.frames.specs.declared.Frame.{Frame}
 use Rattle.judge.specs.Judged.{lineBytes}
-use Rattle.judge.proofs.Judge.{unread}
 use Rattle.judge.proofs.judge_frame.Statement.{statement}
 use Rattle.judge.proofs.judge_frame.Tie as tie
 
@@ -20,8 +18,8 @@ abbrev bytes : tie.Start → List ℕ
 bytes p = lineBytes (p .args .text .now) (p .args .at) (p .args .end)
 
 -- what the line says, by the answer that the reader of frames gave
-says : (p : tie.Start) (f : Frame) → p .args .frame ≡ f → frameOf (bytes p) ≡ shown (bytes p) f
-says p f e = sym (p .pre .1 .1 .1 .1 .0) ∙ ap (shown (bytes p)) e
+says : (p : tie.Start) (f : Frame) → p .args .frame ≡ f → frameOf (bytes p) ≡ some (shown (bytes p) f)
+says p f e = p .pre .1 .1 .1 .1 .0 ∙ ap (λ (x : Frame). some (shown (bytes p) x)) e
 
 placed : (p : tie.Start) (f : Frame) → p .args .frame ≡ f → Placed (bytes p) f
 placed p f e = subst (Placed (bytes p)) e (p .pre .1 .1 .1 .1 .1)
@@ -86,12 +84,6 @@ returns-6 c =
     let p = d .before .before .before .before .before in
     λ s e h. c .judge-code2 .ensures s (p .args .text .now) (bytes p) _ e (says p _ (d .enum-told4 .given .1)) refl (omega (arith, placed p _ (d .enum-told4 .given .1)))
 
-returns-7 : tie.Need-returns-7
-returns-7 c =
-    let d = c .before in
-    let p = d .before .before .before .before .before in
-    λ s e h. (unread s (bytes p) (says p _ (d .enum-told5 .given .1)), omega (arith, e .lines))
-
 pub judge-frame-spec : {M : Type 1} → statement M
 judge-frame-spec =
     tie.close
@@ -109,11 +101,9 @@ judge-frame-spec =
     judge-relocation-requires
     (search needs)
     judge-code-requires-2
-    (search needs) (search needs)
     returns
     returns-2
     returns-3
     returns-4
     returns-5
-    returns-6
-    returns-7)
+    returns-6)

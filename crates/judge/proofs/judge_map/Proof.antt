@@ -1,24 +1,25 @@
 -- `judge::judge_map` meets its contract. Assumes nothing.
 use mathlib.Core.Path.{_≡_, sym, _∙_, ap}
-use mathlib.Core.Bool.{not}
-use mathlib.Core.Option.{Option, none}
+use mathlib.Core.Bool.{Bool, true, false, _||_}
+use mathlib.Core.Option.{some}
 use mathlib.Core.List.{List}
-use Prim.Native.Nat.{ℕ, _+_, _*_, _≤_}
+use Prim.Native.Nat.{ℕ, _+_, _-_, _*_, _≤_}
 use native.Mathlib.Omega.{arith}
-use lib.Dec.{leb}
+use lib.Dec.{ltb, leb}
 use lib.ListN.{length, drop}
 use borrow.Author.Needs.{needs}
-use borrow.Author.Tests.{not-false, ltb-false, leb-false}
+use borrow.Author.Tests.{not-false, lt-ltb, le-ltb, ltb-false, leb-false}
+use Rattle.octets.specs.Told.{toldIf}
+use Rattle.octets.proofs.Told.{told-holds, told-free}
+use Rattle.octets.proofs.Tests.{or-false-both}
 use Rattle.lines.proofs.Parts.{line-length}
 use Rattle.utf8.specs.Utf8.{isText}
 use Rattle.frames.specs.Frames.{Frame}
-use Rattle.refusals.specs.Checked.{Stage, went, advance, long, first, reasons}
-use Rattle.flaws.specs.Flaws.{nameFlaw, faultOf}
+use Rattle.refusals.specs.Checked.{Stage, long, badName, added}
+use Rattle.flaws.specs.Flaws.{flawTold, limitTold}
 use Rattle.judge.specs.Judged.{lineBytes, mapFrameOf, Agrees}
-use Rattle.flaws.specs.declared.Flaw.{Flaw}
-use Rattle.flaws.proofs.Flaws.{faultNumber}
 use Rattle.judge.proofs.Pieces.{Piece, rest, part-hex, part-bytes, piece-name, piece-named}
-use Rattle.judge.proofs.Judge.{stops, goes, judged-fault, judged-free, Clean, clean, map-late, map-reasons}
+use Rattle.judge.proofs.Judge.{stops, goes, at-4, at-5, at-6, at-none}
 use Rattle.judge.proofs.judge_map.Statement.{statement}
 use Rattle.judge.proofs.judge_map.Tie as tie
 
@@ -44,33 +45,57 @@ piece p =
     let a = p .args in
     rest (a .text .now) (a .at) (a .end) (p .pre .0) (a .name) (a .at + 2 * a .name) (omega arith) (inside p)
 
-found : (c : tie.After-fault-of) → let p = c .before .before .before .before .before .before .before .before in c .fault-of .result ≡ faultOf (nameFlaw (given p)) (leb 64 (p .args .counts .maps)) (p .args .counts .lines + 1)
-found c =
-    let p = c .before .before .before .before .before .before .before .before in
-    c .fault-of .ensures
-    ∙ ap (λ (f : Flaw). faultOf f (leb 64 (p .args .counts .maps)) (p .args .counts .lines + 1)) (c .before .before .name-flaw .ensures ∙ ap nameFlaw (part-bytes (piece p)))
+-- ---- what the steps told
 
-clear : (c : tie.After-enum-told) → let p = c .before .before .before .before .before .before .before .before .before .before in Clean (not (isText (given p))) (long (given p)) (leb 64 (p .args .counts .maps))
-clear c =
-    let q = c .before .before in
-    let p = q .before .before .before .before .before .before .before .before in
-    let t = given p in
-    clean (not (isText t)) (long t) (leb 64 (p .args .counts .maps)) (p .args .counts .lines + 1) (q .fault-of .result) (found q) (c .enum-told .given .1)
+abbrev start : tie.After-name-flaw → tie.Start
+start q = q .before .before .before .before .before .before
 
--- the table, where no program is there
-table : (p : tie.Start) (s : Stage) → Agrees s (p .args .counts) → p .args .counts .programs ≤ 0
-    → first (reasons s (frame p)) ≡ faultNumber (faultOf (nameFlaw (given p)) (leb 64 (p .args .counts .maps)) (p .args .counts .lines + 1)) none
-table p s e h =
-    let d = p .args .decl in
-    map-reasons s (d .«map_type») (d .«key_type») (d .«value_type») (d .«max_entries») (given p) (p .args .counts .lines + 1) (omega (arith, e .programs))
-    ∙ ap (λ (n : ℕ). faultNumber (faultOf (nameFlaw (given p)) (leb 64 n) (p .args .counts .lines + 1)) none) (e .maps)
+abbrev full : tie.Start → Bool
+full p = leb 64 (p .args .counts .maps)
+
+flaw : (q : tie.After-name-flaw) → flawTold (q .name-flaw .result) ≡ toldIf 5 (badName (given (start q)))
+flaw q = q .name-flaw .ensures ∙ ap (λ (x : List ℕ). toldIf 5 (badName x)) (part-bytes (piece (start q)))
+
+good : (d : tie.After-enum-told) → badName (given (start (d .before .before))) ≡ false
+good d = told-free 5 _ (sym (ap flawTold (d .enum-told .given .1)) ∙ flaw (d .before .before))
+
+-- the step before the limits were asked
+abbrev asked : tie.After-name-limit → tie.After-enum-told
+asked r = r .before .before .before
+
+limit : (r : tie.After-name-limit) → let p = start (asked r .before .before) in limitTold (r .name-limit .result) ≡ toldIf 6 (full p || long (given p))
+limit r =
+    let p = start (asked r .before .before) in
+    r .name-limit .ensures ∙ ap (λ (x : List ℕ). toldIf 6 (full p || long x)) (part-bytes (piece p))
+
+kept : (k : tie.After-enum-told3) → let p = start (asked (k .before .before) .before .before) in (full p || long (given p)) ≡ false
+kept k = told-free 6 _ (sym (ap limitTold (k .enum-told3 .given .1)) ∙ limit (k .before .before))
+
+short : (k : tie.After-enum-told3) → let p = start (asked (k .before .before) .before .before) in long (given p) ≡ false
+short k = let p = start (asked (k .before .before) .before .before) in or-false-both (full p) (long (given p)) (kept k) .1
+
+-- the table's tests in a stage with these counts
+module _ (p : tie.Start) (s : Stage) (e : Agrees s (p .args .counts)) where
+  abbrev late : Bool
+  late = ltb 0 (length (s .job .programs))
+
+  abbrev over : Bool
+  over = leb 64 (length (s .job .maps)) || long (given p)
+
+  over-is : (b : Bool) → (full p || long (given p)) ≡ b → over ≡ b
+  over-is b q = ap (λ (n : ℕ). leb 64 n || long (given p)) (e .maps) ∙ q
+
+  early : p .args .counts .programs ≤ 0 → late ≡ false
+  early h = le-ltb 0 (length (s .job .programs)) (omega (arith, e .programs))
+
+-- ---- the answers
 
 returns : tie.Need-returns
 returns c =
     let p = c .before .before .before .before in
-    let d = p .args .decl in
     λ s e. (
-      stops s (frame p) (bytes p) 4 (p .pre .1 .1 .1) (map-late s (d .«map_type») (d .«key_type») (d .«value_type») (d .«max_entries») (given p) (omega (arith, e .programs))),
+      stops s (frame p) (bytes p) (p .pre .1 .1 .1) 4
+          (at-4 (late p s e) (badName (given p)) (over p s e) (lt-ltb 0 (length (s .job .programs)) (omega (arith, e .programs)))),
       omega (arith, e .lines),
     )
 
@@ -89,35 +114,58 @@ part-name-flaw-start c = omega (arith, inside (c .before .before .before .before
 name-flaw-requires : tie.Need-name-flaw-requires
 name-flaw-requires c κs = part-hex (piece (c .before .before .before .before .before))
 
-name-at-requires : tie.Need-name-at-requires
-name-at-requires c κs =
-    let p = c .before .before .before .before .before .before .before .before .before .before in
-    let f = p .pre .0 in
-    let n = ltb-false 64 (length (given p)) (clear c .short) in
-    (inside p, (omega (arith, f .few, f .last), omega (arith, piece p .count, piece p .even)))
-
 returns-2 : tie.Need-returns-2
 returns-2 c =
-    let q = c .before .before .before in
-    let p = q .before .before .before .before .before .before .before .before in
+    let q = c .before .before in
+    let p = start q in
     let t = given p in
-    λ s e. judged-fault s (frame p) (bytes p) (not (isText t)) (long t) (leb 64 (p .args .counts .maps)) (p .args .counts .lines + 1) none (q .fault-of .result) (p .pre .1 .1 .1)
-    (table p s e (omega arith)) (found q) (p .args .text .now) (c .before .fault .given .0 .0) (c .before .fault .given .1) (omega (arith, e .lines))
+    λ s e. (
+      stops s (frame p) (bytes p) (p .pre .1 .1 .1) 5
+          (at-5 (late p s e) (badName t) (over p s e) (early p s e (omega arith)) (told-holds 5 5 (badName t) (sym (ap flawTold (c .enum-told2 .given .1)) ∙ flaw q))),
+      omega (arith, e .lines),
+    )
+
+sub-name-limit : tie.Need-sub-name-limit
+sub-name-limit c = omega (arith, inside (start (c .before .before)))
+
+part-name-limit-start : tie.Need-part-name-limit-start
+part-name-limit-start c = omega (arith, inside (start (c .before .before)))
+
+name-limit-requires : tie.Need-name-limit-requires
+name-limit-requires c κs = part-hex (piece (start (c .before .before .before .before)))
 
 returns-3 : tie.Need-returns-3
 returns-3 c =
-    let d = c .before in
-    let q = d .before .before in
-    let p = q .before .before .before .before .before .before .before .before in
+    let r = c .before .before in
+    let d = asked r in
+    let p = start (d .before .before) in
+    λ s e. (
+      stops s (frame p) (bytes p) (p .pre .1 .1 .1) 6
+          (at-6 (late p s e) (badName (given p)) (over p s e) (early p s e (omega arith)) (good d)
+          (over-is p s e true (told-holds 6 6 (full p || long (given p)) (sym (ap limitTold (c .enum-told4 .given .1)) ∙ limit r)))),
+      omega (arith, e .lines),
+    )
+
+name-at-requires : tie.Need-name-at-requires
+name-at-requires c κs =
+    let p = start (asked (c .before .before) .before .before) in
+    let f = p .pre .0 in
+    let n = ltb-false 64 (length (given p)) (short c) in
+    (inside p, (omega (arith, f .few, f .last), omega (arith, piece p .count, piece p .even)))
+
+returns-4 : tie.Need-returns-4
+returns-4 c =
+    let k = c .before in
+    let d = asked (k .before .before) in
+    let p = start (d .before .before) in
     let t = given p in
-    let k = clear d in
-    let m = leb-false 64 (p .args .counts .maps) (k .room) in
+    let m = leb-false 64 (p .args .counts .maps) (or-false-both (full p) (long t) (kept k) .0) in
     λ s e. rw (c .name-at .ensures) (
       goes s (frame p) (bytes p) (p .pre .1 .1 .1)
-          (judged-free s (frame p) (bytes p) (not (isText t)) (long t) (leb 64 (p .args .counts .maps)) (p .args .counts .lines + 1) none (q .fault-of .result) (p .pre .1 .1 .1)
-          (table p s e (omega arith)) (found q) (d .enum-told .given .1))
-          ∙ ap (λ (n : List ℕ). went (advance (mapFrameOf (p .args .decl) n) s)) (sym (piece-name (piece p))),
-      (piece-named (piece p) (inside p) (p .pre .0 .last) (not-false (isText t) (k .good)) (k .short), omega (arith, e .maps), omega (arith, e .programs)),
+          (at-none (late p s e) (badName t) (over p s e) (early p s e (omega arith)) (good d) (over-is p s e false (kept k)))
+          ∙ ap (λ (n : List ℕ). added s (mapFrameOf (p .args .decl) n)) (sym (piece-name (piece p))),
+      (piece-named (piece p) (inside p) (p .pre .0 .last) (not-false (isText t) (good d)) (short k), omega (arith, e .maps), omega (arith, e .programs)),
+      p .pre .1 .1 .1 ∙ ap (λ (n : List ℕ). some (mapFrameOf (p .args .decl) n)) (sym (piece-name (piece p))),
     )
 
 pub judge-map-spec : {M : Type 1} → statement M
@@ -132,7 +180,13 @@ judge-map-spec =
     part-name-flaw-start
     (search needs)
     name-flaw-requires
-    (search needs) (search needs) (search needs)
-    name-at-requires
+    (search needs) (search needs)
     returns-2
-    returns-3)
+    sub-name-limit
+    part-name-limit-start
+    (search needs)
+    name-limit-requires
+    (search needs) (search needs)
+    returns-3
+    name-at-requires
+    returns-4)

@@ -1,17 +1,15 @@
 -- `lookup::find_map` meets its contract: no map from `i` on has the name. Assumes nothing.
 use mathlib.Core.Path.{_≡_, refl, sym, _∙_, ap}
-use mathlib.Core.Bool.{Bool, true, false}
 use mathlib.Core.List.{List}
-use mathlib.Core.Option.{Option, none, some}
-use Prim.Native.Nat.{ℕ, suc, _+_, _-_, _*_, _≤_, _<_}
+use Prim.Native.Nat.{ℕ, _-_, _≤_}
 use native.Mathlib.Omega.{arith}
-use lib.ListN.{length, take, drop, getD}
+use lib.ListN.{length, take}
 use borrow.Author.Needs.{needs}
-use Rattle.lines.specs.Hex.{isHex, bytesIn}
+use Rattle.octets.specs.Told.{told}
+use Rattle.lines.specs.Hex.{bytesIn}
 use Rattle.ast.specs.Job.{lastMap}
 use Rattle.ast.specs.declared.MapDecl.{MapDecl}
 use Rattle.object.specs.Read.{mapsIn}
-use Rattle.lookup.specs.Names.{Names}
 use Rattle.lookup.proofs.Names.{here, not-here}
 use Rattle.lookup.proofs.find_map.Statement.{statement}
 use Rattle.lookup.proofs.find_map.Tie as tie
@@ -62,7 +60,7 @@ returns c =
     let l = q .before .before .before .before .before .loop in
     let p = q .before .before .before .before .before .before .before .before .before .before in
     let a = p .args in (
-      (λ ds h. sym (l .inv .1 ds h ∙ here (a .text .now) (a .ats .now) (a .lens .now) (a .count) (a .name .now) (p .pre .1) (p .pre .0) ds h (l .i) (omega arith) (omega arith) (sym (c .if1 .taken) ∙ q .same .ensures))),
+      (λ ds h. ap (told 7) (sym (l .inv .1 ds h ∙ here (a .text .now) (a .ats .now) (a .lens .now) (a .count) (a .name .now) (p .pre .1) (p .pre .0) ds h (l .i) (omega arith) (omega arith) (sym (c .if1 .taken) ∙ q .same .ensures)))),
       omega arith,
     )
 
@@ -81,7 +79,7 @@ returns-2 c =
     let l = c .before .loop in
     let a = c .before .before .before .before .before .before .args in
     let e : l .i ≡ 0 = omega arith in
-    ((λ ds h. sym (l .inv .1 ds h ∙ ap (λ (k : ℕ). lastMap (bytesIn (a .name .now)) (mapsIn (a .text .now) (take k ds) (take k (a .ats .now)) (take k (a .lens .now)))) e)), tt)
+    ((λ ds h. ap (told 7) (sym (l .inv .1 ds h ∙ ap (λ (k : ℕ). lastMap (bytesIn (a .name .now)) (mapsIn (a .text .now) (take k ds) (take k (a .ats .now)) (take k (a .lens .now)))) e))), tt)
 
 pub find-map-spec : {M : Type 1} → statement M
 find-map-spec =

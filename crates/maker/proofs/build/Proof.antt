@@ -48,11 +48,11 @@ returns c =
 mul-headers : tie.Need-mul-headers
 mul-headers c = omega (arith, few (c .before .before .before))
 
-part-write-end-2 : tie.Need-part-write-end-2
-part-write-end-2 c = omega (arith, few (c .before .before .before .before .before))
+part-encode-end-2 : tie.Need-part-encode-end-2
+part-encode-end-2 c = omega (arith, few (c .before .before .before .before .before))
 
-write-requires : tie.Need-write-requires
-write-requires c κs =
+encode-requires : tie.Need-encode-requires
+encode-requires c κs =
     let m = c .before .before .before .before .before .before .before .before .before .before .before in
     let w = m .before .before .before in
     let p = w .before .before .before .before .before .before .before .before in
@@ -68,7 +68,7 @@ returns-2 c =
     let u = c .before .before in
     let m = u .before .before .before .before .before .before .before .before .before .before .before .before in
     let a = m .before .before .before .before .before .before .before .before .before .before .before .args in
-    fits (a .out .now) (whole.object (jobIn (a .text .now) (a .t3))) _ (m .measure .result .len) (long m) (omega (arith, u .before .before .before .before .before .before .before .before .before .before .if1 .left)) (u .write .ensures)
+    fits (a .out .now) (whole.object (jobIn (a .text .now) (a .t3))) _ (m .measure .result .len) (long m) (omega (arith, u .before .before .before .before .before .before .before .before .before .before .if1 .left)) (u .encode .ensures)
 
 pub build-spec : {M : Type 1} → statement M
 build-spec =
@@ -81,7 +81,7 @@ build-spec =
     mul-headers
     (search needs) (search needs) (search needs)
     (search needs) (search needs)
-    part-write-end-2
-    write-requires
+    part-encode-end-2
+    encode-requires
     (search needs)
     returns-2)

@@ -1,4 +1,4 @@
--- `maker::weigh_maps` meets its contract: with no map the numbers are those of the definitions for none. Assumes nothing.
+-- `maker::weigh_maps` meets its contract: with no map, the numbers are those that the definitions give for none. Assumes nothing.
 use mathlib.Core.Path.{_≡_, sym, ap}
 use mathlib.Core.List.{List, []}
 use Prim.Native.Nat.{ℕ, _+_, _*_, _≤_}

@@ -51,7 +51,7 @@ add-plain-requires-2 c κs =
     let p = u .before .before .before .before .before .before .before .before in
     (rw (first u .1) (low-more (low-licensed (p .args .sizes) (p .pre .0)) (omega arith)), (has-long (first u .0) ∙ p .pre .1, (eight, (omega (arith, p .pre .0), omega arith))))
 
--- `.maps` behind it
+-- `.maps` after it
 second : (c : tie.After-add-plain2) → let a = c .before .before .before .before .before .before .before .before .before .before .before .before .before .args in
     Has (a .table .now) 0 (c .add-plain2 .last .0) (nullSection ∷ licenceAt (a .sizes) ∷ mapsAt (a .sizes) ∷ []) × (c .add-plain2 .result ≡ roomed (a .sizes))
 second c =

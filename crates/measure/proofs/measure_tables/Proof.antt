@@ -20,11 +20,11 @@ use Rattle.measure.proofs.measure_tables.Tie as tie
 align-to-requires : tie.Need-align-to-requires
 align-to-requires c κs = (eight, omega (arith, c .before .pre .0))
 
-add-t13 : tie.Need-add-t13
-add-t13 c = let p = c .before .before .before .before in omega (arith, p .pre .0)
+add-t18 : tie.Need-add-t18
+add-t18 c = let p = c .before .before .before .before in omega (arith, p .pre .0)
 
-cast-t14 : tie.Need-cast-t14
-cast-t14 c = let p = c .before .before .before .before in omega (arith, p .pre .0)
+cast-t19 : tie.Need-cast-t19
+cast-t19 c = let p = c .before .before .before .before in omega (arith, p .pre .0)
 
 add-section-requires : tie.Need-add-section-requires
 add-section-requires c κs =
@@ -32,7 +32,7 @@ add-section-requires c κs =
     let at = c .before .before .before .align-to .ensures in
     ((omega (arith, p .pre .0), p .pre .1 .0), (omega (arith, at, align-near 8 (p .args .m .end) (omega arith), p .pre), omega (arith, p .pre .0)))
 
--- `.symtab`, and then `.strtab`, where the code has them
+-- `.symtab`, and then `.strtab`, as the code has them
 first : (c : tie.After-add-section) → let a = c .before .before .before .before .before .before .args in
     Has (a .table .now) (a .m .count) (c .add-section .last .0) (symtabAt (a .m) (a .symbols) ∷ []) × (c .add-section .result ≡ withSymbols (a .m) (a .symbols))
 first c =
@@ -89,8 +89,8 @@ measure-tables-spec =
     (tie.spec
     align-to-requires
     (search needs) (search needs)
-    add-t13
-    cast-t14
+    add-t18
+    cast-t19
     add-section-requires
     add-plain-requires
     add-size

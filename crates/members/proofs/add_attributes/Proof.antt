@@ -14,7 +14,7 @@ use Rattle.members.proofs.Attributes.{stage-number, stage-type, stage-c
 use Rattle.members.proofs.add_attributes.Statement.{statement}
 use Rattle.members.proofs.add_attributes.Tie as tie
 
--- what is still to come behind the type and behind the key
+-- what is still to come after the type and after the key
 abbrev entriesRest : BtfBuilder → MapDecl → List ℕ
 entriesRest b d = countAttrBytes (d .«max_entries») (valuePassed b d .«next_type_id»)
 
@@ -49,7 +49,7 @@ valued c =
     let a = q .before .before .before .before .before .before .before .before .args in
     stage-type _ _ _ 2 (a .map .«value_type») (keyed q) (c .add-type-attr2 .ensures) (omega arith)
 
--- the builder behind the value
+-- the builder after the value
 value-built : (c : tie.After-add-type-attr2) →
     let a = c .before .before .before .before .before .before .before .before .before .before .before .before .args in
     c .add-type-attr2 .result ≡ valuePassed (a .b) (a .map)
@@ -61,7 +61,7 @@ value-built c =
     ∙ ap (λ (b : BtfBuilder). typeAttrPassed (a .map .«value_type») b)
     (k .add-type-attr .ensures .1 ∙ ap (λ (b : BtfBuilder). typeAttrPassed (a .map .«key_type») b) (t .add-number .ensures .1))
 
--- the rest behind the value, as the next call says it
+-- the rest after the value, as the next call says it
 counting : (c : tie.After-add-type-attr2) →
     let a = c .before .before .before .before .before .before .before .before .before .before .before .before .args in
     let r = c .add-type-attr2 .result in

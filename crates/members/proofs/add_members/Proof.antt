@@ -11,14 +11,14 @@ use Rattle.members.proofs.MemberRows.{Row, row-start, row-as, row-ahead
 use Rattle.members.proofs.add_members.Statement.{statement}
 use Rattle.members.proofs.add_members.Tie as tie
 
--- what is still to come behind the key, where the member before it left `s`, and behind the type
+-- what is still to come after the key, if the member before it left `s`, and after the type
 abbrev entriesRest : Members → MapDecl → List ℕ
 entriesRest s d = countMember (d .«max_entries») (valueDone s d)
 
 abbrev valueRest : Members → MapDecl → List ℕ
 valueRest s d = typeMember (d .«value_type») (keyDone s d) ++ entriesRest s d
 
--- the members behind each call
+-- the members after each call
 key-made : (c : tie.After-add-type-member) →
     let a = c .before .before .before .before .before .before .before .args in
     c .add-type-member .result ≡ keyDone (a .s) (a .map)

@@ -24,7 +24,7 @@ put-name-requires c κs =
     let p = c .before .before .before .before in
     (p .pre .0, omega (arith, p .pre .0 .short))
 
--- the part `[0..n]` of the bytes is the name, and the number that was answered is the written name's length
+-- the part `[0..n]` of the bytes is the name
 raw : (c : tie.After-put-name) →
     let a = c .before .before .before .before .before .args in
     take (a .name .len - 0) (drop 0 (over (replicate 64 0) 0 (nameIn (a .text .now) (a .name)))) ≡ nameIn (a .text .now) (a .name)
@@ -33,6 +33,13 @@ raw c =
     let a = p .args in
     over-front (replicate 64 0) (nameIn (a .text .now) (a .name)) (a .name .len) (name-length (a .text .now) (a .name) (p .pre .0))
 
+written-len-requires : tie.Need-written-len-requires
+written-len-requires c κs =
+    let q = c .before .before .before in
+    let p = q .before .before .before .before .before in
+    ap (λ (l : List ℕ). isText (take (p .args .name .len - 0) (drop 0 l))) (q .put-name .ensures .0) ∙ ap isText (raw q) ∙ p .pre .0 .good
+
+-- the number that was answered is the written name's length
 size : (c : tie.After-written-len) →
     let a = c .before .before .before .before .before .before .before .before .before .args in
     c .written-len .result ≡ length (written (nameIn (a .text .now) (a .name)))
@@ -117,7 +124,8 @@ put-written-spec =
     (tie.spec
     (search needs) (search needs)
     put-name-requires
-    (search needs) (search needs) (search needs) (search needs)
+    (search needs) (search needs) (search needs)
+    written-len-requires
     add-end
     (search needs) (search needs)
     part-sanitize-ident-end

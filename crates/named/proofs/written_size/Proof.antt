@@ -17,7 +17,7 @@ use Rattle.named.proofs.written_size.Tie as tie
 is-ascii-requires : tie.Need-is-ascii-requires
 is-ascii-requires c κs = let p = c .before .before .before .before in part-hex (p .args .text .now) (p .args .name) (p .pre)
 
--- where the digits tell that the name is ASCII
+-- when the digits tell that the name is ASCII
 ascii : (c : tie.Then1) → let a = c .before .before .before .before .before .before .args in allAscii (nameIn (a .text .now) (a .name)) ≡ true
 ascii c =
     let q = c .before in

@@ -59,7 +59,7 @@ kept c =
     let a = c .before .before .before .before .args in
     kept-program (a .text .now) 256 (a .t5) (a .count) (l .i) (omega (arith, l .inv .1)) (omega arith) (l .inv .1 .kept)
 
--- the row that is still to come, before and behind the program's own section
+-- the row that is still to come, before and after the program's own section
 abbrev Row : tie.In-loop Inv-loop μ-loop → List ℕ → ℕ → List Section → Type 0
 Row c out end rest =
     let a = c .before .before .before .before .args in
@@ -98,7 +98,7 @@ slotted c =
     let a = c .before .before .before .before .args in
     subst (AllSlotted (a .text .now) (a .slots)) (from c) (l .inv .2)
 
--- behind the program's own section
+-- after the program's own section
 coded : (c : tie.After-lay-code Inv-loop μ-loop) →
     let q = c .before .before .before in
     let a = q .before .before .before .before .args in

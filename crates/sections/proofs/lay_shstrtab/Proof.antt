@@ -19,14 +19,14 @@ add-behind c =
     let p = q .before .before .before .before in
     omega (arith, fits-add (p .pre .1) (q .pad .ensures .1), p .pre .1 .short)
 
-part-end : tie.Need-part-put-shstrtab-end
+part-end : tie.Need-part-build-shstrtab-end
 part-end c =
     let q = c .before .before in
     let p = q .before .before .before .before in
     omega (arith, fits-add (p .pre .1) (q .pad .ensures .1))
 
-put-shstrtab-requires : tie.Need-put-shstrtab-requires
-put-shstrtab-requires c κs =
+build-shstrtab-requires : tie.Need-build-shstrtab-requires
+build-shstrtab-requires c κs =
     let q = c .before .before .before in
     let p = q .before .before .before .before in
     let a = p .args in
@@ -38,7 +38,7 @@ returns c =
     let u = c .before .before in
     let q = u .before .before .before .before in
     let p = q .before .before .before .before in
-    (fits-lay (p .pre .1) _ (q .pad .ensures .1) (q .pad .ensures .0) _ (u .put-shstrtab .ensures), fits-after (p .pre .1) (q .pad .ensures .1))
+    (fits-lay (p .pre .1) _ (q .pad .ensures .1) (q .pad .ensures .0) _ (u .build-shstrtab .ensures), fits-after (p .pre .1) (q .pad .ensures .1))
 
 pub lay-shstrtab-spec : {M : Type 1} → statement M
 lay-shstrtab-spec =
@@ -48,6 +48,6 @@ lay-shstrtab-spec =
     add-behind
     (search needs) (search needs)
     part-end
-    put-shstrtab-requires
+    build-shstrtab-requires
     (search needs)
     returns)

@@ -20,14 +20,14 @@ add-behind c =
     let p = q .before .before .before .before .before .before in
     omega (arith, fits-add (p .pre .1 .1) (q .pad .ensures .1), p .pre .1 .1 .short)
 
-part-end : tie.Need-part-put-symtab-end
+part-end : tie.Need-part-build-symtab-end
 part-end c =
     let q = c .before .before in
     let p = q .before .before .before .before .before .before in
     omega (arith, fits-add (p .pre .1 .1) (q .pad .ensures .1))
 
-put-symtab-requires : tie.Need-put-symtab-requires
-put-symtab-requires c κs =
+build-symtab-requires : tie.Need-build-symtab-requires
+build-symtab-requires c κs =
     let q = c .before .before .before in
     let p = q .before .before .before .before .before .before in
     let a = p .args in
@@ -39,7 +39,7 @@ returns c =
     let u = c .before .before in
     let q = u .before .before .before .before in
     let p = q .before .before .before .before .before .before in
-    (fits-lay (p .pre .1 .1) _ (q .pad .ensures .1) (q .pad .ensures .0) _ (u .put-symtab .ensures), fits-after (p .pre .1 .1) (q .pad .ensures .1))
+    (fits-lay (p .pre .1 .1) _ (q .pad .ensures .1) (q .pad .ensures .0) _ (u .build-symtab .ensures), fits-after (p .pre .1 .1) (q .pad .ensures .1))
 
 pub lay-symtab-spec : {M : Type 1} → statement M
 lay-symtab-spec =
@@ -49,6 +49,6 @@ lay-symtab-spec =
     add-behind
     (search needs) (search needs)
     part-end
-    put-symtab-requires
+    build-symtab-requires
     (search needs)
     returns)

@@ -24,7 +24,7 @@ returns c =
     let ms = declaredMaps (a .text .now) (a .object) in
     nothing-laid (a .out .now) (a .end) (mapPieces (a .object .«map_count») ms) (no-maps (a .object .«map_count») ms (omega arith))
 
--- before `.maps`, where there are maps
+-- before `.maps`, if there are maps
 begun : (c : tie.Else1) →
     let a = c .before .before .before .before .before .before .args in
     let ms = declaredMaps (a .text .now) (a .object) in
@@ -48,7 +48,7 @@ lay-zeros-requires c κs =
     let f = turn-fits n _ _ (begun q .1) eight (sym (length-replicate {A = ℕ} n 0)) (p .pre .1 .1 .1 .1) in
     subst (λ (k : ℕ). Fits (a .out .now) (a .end) k (bare 8 (zeros k))) (p .pre .1 .1 .0 .maps) f
 
--- behind `.maps`
+-- after `.maps`
 middle : (c : tie.After-lay-zeros) →
     let a = c .before .before .before .before .before .before .before .before .args in
     let ms = declaredMaps (a .text .now) (a .object) in

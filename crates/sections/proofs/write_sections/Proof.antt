@@ -48,7 +48,7 @@ lay-license-requires c κs =
     omega (arith, p .pre .1 .0 .license, length-append (licenceIn (a .text .now) (a .object .license)) (0 ∷ [])) in
     (p .pre .0 .kept .licence, turn-fits (a .sizes .license + 1) _ _ (begun p) one n (short p))
 
--- behind the licence, the maps' sections and the programs'
+-- after the licence, the maps' sections and the programs'
 licensed : (c : tie.After-lay-license) → let p = c .before .before .before .before .before .before .before in let a = p .args in
     Turn (a .out .now) 64 (allPieces (a .text .now) (a .object)) (c .lay-license .last .0) (c .lay-license .result) (maps p ++ (programs p ++ tables p))
 licensed c = turn-on _ _ _ _ (begun (c .before .before .before .before .before .before .before)) (c .lay-license .ensures .0) (c .lay-license .ensures .1)

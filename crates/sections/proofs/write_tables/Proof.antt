@@ -36,7 +36,7 @@ lay-symtab-requires c κs =
     let a = p .args in
     (p .pre .0, ((sym (p .pre .1 .0 .license), p .pre .1 .1 .0 .license), turn-fits _ _ _ (begun p) eight (sym (symtab-long (a .text .now) (a .object) (p .pre .0 .kept))) (p .pre .1 .1 .1 .1 .1)))
 
--- behind `.symtab`, and behind `.strtab`
+-- after `.symtab`, and after `.strtab`
 first : (c : tie.After-lay-symtab) → let a = c .before .before .before .before .before .before .before .before .args in let j = jobIn (a .text .now) (a .object) in
     Turn (a .out .now) (a .end) (tablePieces j) (c .lay-symtab .last .0) (c .lay-symtab .result) (bare 1 (strtabOf j) ∷ bare 1 (shstrtabOf j) ∷ [])
 first c = turn-on _ _ _ _ (begun (c .before .before .before .before .before .before .before .before)) (c .lay-symtab .ensures .0) (c .lay-symtab .ensures .1)

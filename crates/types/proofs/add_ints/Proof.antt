@@ -11,7 +11,7 @@ use Rattle.types.proofs.Ints.{intPiece, Known, int-room, int-on}
 use Rattle.types.proofs.add_ints.Statement.{statement}
 use Rattle.types.proofs.add_ints.Tie as tie
 
--- the builder behind `k` ints, and what is still to come
+-- the builder after `k` ints, and what is still to come
 abbrev behind : ℕ → ℕ → ℕ → BtfBuilder
 behind at strings next = record { at = at; strings = strings; «next_type_id» = next }
 

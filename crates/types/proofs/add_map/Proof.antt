@@ -23,7 +23,7 @@ add-btf-map-struct-requires c κs =
 written-size-requires : tie.Need-written-size-requires
 written-size-requires c κs = c .before .before .before .before .before .before .pre .0
 
--- the builder behind the struct, whose id is one below the next one
+-- the builder after the struct, whose id is one below the next one
 ended : (c : tie.After-add-btf-map-struct) →
     let a = c .before .before .before .before .args in
     c .add-btf-map-struct .result ≡ structEnd (a .b) (a .map)

@@ -18,5 +18,5 @@ var-id-spec =
     tie.close
     (tie.spec
     (search needs) (search needs) (search needs) (search needs)
-    (search needs) (search needs) (search needs)
+    (search needs) (search needs) (search needs) (search needs)
     returns)

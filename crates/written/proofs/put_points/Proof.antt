@@ -1,5 +1,5 @@
 -- `written::put_points` meets its contract. Assumes nothing.
-use mathlib.Core.Path.{_≡_, refl, sym, _∙_, ap, subst}
+use mathlib.Core.Path.{_≡_, refl, sym, _∙_, ap}
 use mathlib.Core.Bool.{true}
 use mathlib.Core.List.{List, [], _∷_, _++_}
 use mathlib.Core.Option.{some}
@@ -7,12 +7,12 @@ use Prim.Native.Nat.{ℕ, suc, _≤_, _-_, _+_}
 use native.Mathlib.Omega.{arith}
 use lib.ListN.{length, drop, take, length-set}
 use borrow.Author.Needs.{needs}
-use Rattle.utf8.specs.Utf8.{points, pointsFrom, idle}
+use Rattle.utf8.specs.Utf8.{put, pointsFrom}
 use Rattle.written.specs.Written.{written}
 use Rattle.octets.proofs.Laws.{write-on, write-done}
-use Rattle.utf8.specs.Wait.{waitOf, Fine, FineNext}
+use Rattle.utf8.specs.Wait.{waitOf, Fine}
 use Rattle.written.specs.Name.{charAt, restOf}
-use Rattle.utf8.proofs.Laws.{answered, ended-ok, idled, fine-idle, ok, not-bad, ok-start}
+use Rattle.utf8.proofs.Laws.{took-point, took-more, took-none, ended-ok, idled, fine-idle, ok, not-bad, ok-start}
 use Rattle.written.proofs.Chars.{rest-start, ok-next, next-char, rest-end, room, full}
 use Rattle.written.proofs.put_points.Statement.{statement}
 use Rattle.written.proofs.put_points.Tie as tie
@@ -37,24 +37,47 @@ loop-holds c =
       rest-start s ∙ idled (restOf 0) _ (c .idle .ensures) s,
     )
 
--- the next character, where the code has it
-next : (c : tie.After-written-char Inv-loop μ-loop) →
-    let q = c .before .before .before .before in
+-- what the step took, when the code has a character
+given : (c : tie.After-written-char Inv-loop μ-loop) →
+    let n = c .before .before in
+    let q = n .before .before .before .before .before .before in
     let l = q .before .before .before .loop in
     let s = q .before .before .before .before .before .before .before .args .s .now in
-    let r = pointsFrom idle (drop (l .i + 1) s) in
-    (written s ≡ take (l .n) (l .out) ++ (charAt (l .n) (c .before .before .c .given .0 .0) ∷ restOf (l .n + 1) r)) × (ok r ≡ true)
-next c =
-    let q = c .before .before .before .before in
+    pointsFrom (waitOf (l .w)) (drop (l .i) s) ≡ put (n .next .given .0 .0) (pointsFrom (waitOf (q .step .result .wait)) (drop (l .i + 1) s))
+given c =
+    let n = c .before .before in
+    let a = n .before .before .before .before in
+    let q = a .before .before in
+    let r = q .step .ensures in
     let l = q .before .before .before .loop in
     let s = q .before .before .before .before .before .before .before .args .s .now in
-    let r = pointsFrom idle (drop (l .i + 1) s) in
-    let t = answered s (l .i) (waitOf (l .w)) _ _ (omega arith) (q .step .ensures .0) (c .before .before .c .given .1) in
-    let x = c .before .before .c .given .0 .0 in
-    (next-char (written s) (l .out) (l .n) x _ r t (l .inv .4) (l .inv .5), ok-next (written s) (l .out) (l .n) x _ r t (l .inv .4))
+    took-point s (l .i) _ (waitOf (l .w)) _ (omega arith) refl (r .0) (r .1 .0) _ _ (a .answer .given .1) (n .next .given .1)
 
-fits : (c : tie.After-written-char Inv-loop μ-loop) → let l = c .before .before .before .before .before .before .before .loop in suc (l .n) ≤ length (l .out)
-fits c = let l = c .before .before .before .before .before .before .before .loop in room (l .out) _ (l .n) _ (l .inv .3) (next c .0)
+-- the next character
+next : (c : tie.After-written-char Inv-loop μ-loop) →
+    let n = c .before .before in
+    let q = n .before .before .before .before .before .before in
+    let l = q .before .before .before .loop in
+    let s = q .before .before .before .before .before .before .before .args .s .now in
+    let r = pointsFrom (waitOf (q .step .result .wait)) (drop (l .i + 1) s) in
+    (written s ≡ take (l .n) (l .out) ++ (charAt (l .n) (n .next .given .0 .0) ∷ restOf (l .n + 1) r)) × (ok r ≡ true)
+next c =
+    let n = c .before .before in
+    let q = n .before .before .before .before .before .before in
+    let l = q .before .before .before .loop in
+    let s = q .before .before .before .before .before .before .before .args .s .now in
+    let r = pointsFrom (waitOf (q .step .result .wait)) (drop (l .i + 1) s) in
+    let x = n .next .given .0 .0 in
+    (next-char (written s) (l .out) (l .n) x _ r (given c) (l .inv .4) (l .inv .5), ok-next (written s) (l .out) (l .n) x _ r (given c) (l .inv .4))
+
+fits : (c : tie.After-written-char Inv-loop μ-loop) →
+    let q = c .before .before .before .before .before .before .before .before in
+    let l = q .before .before .before .loop in
+    suc (l .n) ≤ length (l .out)
+fits c =
+    let q = c .before .before .before .before .before .before .before .before in
+    let l = q .before .before .before .loop in
+    room (l .out) _ (l .n) _ (l .inv .3) (next c .0)
 
 slice-write-out : tie.Need-slice-write-out Inv-loop μ-loop
 slice-write-out c = omega (arith, fits c)
@@ -64,27 +87,28 @@ add-n c = omega (arith, fits c)
 
 loop-again : tie.Need-loop-again Inv-loop μ-loop
 loop-again c =
-    let d = c .before in
-    let l = d .before .before .before .before .before .before .before .loop in
-    let r = drop (l .i + 1) (d .before .before .before .before .before .before .before .before .before .before .before .args .s .now) in (
+    let q = c .before .before .before .before .before .before .before .before in
+    let l = q .before .before .before .loop in
+    let s = q .before .before .before .before .before .before .before .args .s .now in
+    let r = pointsFrom (waitOf (q .step .result .wait)) (drop (l .i + 1) s) in (
       omega arith,
-      fine-idle _ (c .idle2 .ensures),
+      q .step .ensures .1 .1,
       simp length-set (l .inv .2),
       simp length-set (l .inv .3),
-      sym (idled ok _ (c .idle2 .ensures) r) ∙ next d .1,
-      write-on (l .out) (l .n) _ (fits d) (next d .0)
-          (ap (λ (x : ℕ). x ∷ restOf (l .n + 1) (pointsFrom idle r)) (sym (d .written-char .ensures))
-          ∙ ap (λ (t : List ℕ). d .written-char .result ∷ t) (idled (restOf (l .n + 1)) _ (c .idle2 .ensures) r)),
+      next c .1,
+      write-on (l .out) (l .n) _ (fits c) (next c .0) (ap (λ (x : ℕ). x ∷ restOf (l .n + 1) r) (sym (c .written-char .ensures))),
     )
 
 loop-again-2 : tie.Need-loop-again-2 Inv-loop μ-loop
 loop-again-2 c =
-    let q = c .before .before .before in
+    let a = c .before .before .before .before in
+    let q = a .before .before in
+    let r = q .step .ensures in
     let l = q .before .before .before .loop in
     let s = q .before .before .before .before .before .before .before .args .s .now in
-    let t = answered s (l .i) (waitOf (l .w)) _ _ (omega arith) (q .step .ensures .0) (c .before .v .given .1) in (
+    let t = took-more s (l .i) _ (waitOf (l .w)) _ (omega arith) refl (r .0) (r .1 .0) _ (a .answer .given .1) (c .enum-told2 .given .1) in (
       omega arith,
-      subst FineNext (c .before .v .given .1) (q .step .ensures .1),
+      r .1 .1,
       l .inv .2,
       l .inv .3,
       sym (ap ok t) ∙ l .inv .4,
@@ -94,11 +118,12 @@ loop-again-2 c =
 returns : tie.Need-returns Inv-loop μ-loop
 returns c =
     let q = c .before .before in
+    let r = q .step .ensures in
     let l = q .before .before .before .loop in
     let s = q .before .before .before .before .before .before .before .args .s .now in
-    absurd (not-bad _ (answered s (l .i) (waitOf (l .w)) _ _ (omega arith) (q .step .ensures .0) (c .enum-told .given .1)) (l .inv .4))
+    absurd (not-bad _ (took-none s (l .i) _ (waitOf (l .w)) _ (omega arith) refl (r .0) (r .1 .0) (c .enum-told .given .1)) (l .inv .4))
 
--- where the text has ended
+-- when the text has ended
 whole : (c : tie.After-loop Inv-loop μ-loop) →
     let l = c .before .loop in written (c .before .before .before .before .before .args .s .now) ≡ take (l .n) (l .out) ++ restOf (l .n) (some [])
 whole c =
@@ -129,16 +154,16 @@ put-points-spec =
     μ-loop
     (search needs)
     loop-holds
-    (search needs) (search needs) (search needs) (search needs)
+    (search needs) (search needs) (search needs) (search needs) (search needs)
     (search needs)
+    returns
+    (search needs) (search needs)
     slice-write-out
     add-n
-    (search needs) (search needs)
+    (search needs)
     loop-again
     (search needs) (search needs)
     loop-again-2
-    (search needs) (search needs)
-    returns
     put-unnamed-requires
     (search needs)
     returns-2

@@ -7,7 +7,7 @@ use Rattle.written.proofs.Ascii.{written-ascii}
 use Rattle.written.proofs.sanitize_ident.Statement.{statement}
 use Rattle.written.proofs.sanitize_ident.Tie as tie
 
--- the written name where all bytes are ASCII
+-- the written name if all bytes are ASCII
 ascii : (c : tie.Then1) → let s = c .before .before .before .before .args .s .now in written s ≡ writtenPoints s
 ascii c = written-ascii (c .before .before .before .before .args .s .now) (sym (c .before .is-ascii .ensures) ∙ c .if1 .taken)
 

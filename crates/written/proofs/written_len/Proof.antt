@@ -19,4 +19,4 @@ returns-2 c =
     sym (ap length (written-ascii s (sym (d .is-ascii .ensures) ∙ c .before .if1 .taken)) ∙ written-some s (c .if2 .left))
 
 pub written-len-spec : {M : Type 1} → statement M
-written-len-spec = tie.close (tie.spec (search needs) returns returns-2 (search needs) (λ c. c .points-len .ensures))
+written-len-spec = tie.close (tie.spec (search needs) returns returns-2 (λ c κs. c .before .before .before .pre) (λ c. c .points-len .ensures))

@@ -12,5 +12,5 @@ add-struct-spec =
     tie.close
     (tie.spec
     (search needs) (search needs) (search needs) (search needs)
-    (search needs) (search needs)
+    (search needs) (search needs) (search needs)
     returns)

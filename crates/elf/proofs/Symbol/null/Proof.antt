@@ -1,4 +1,4 @@
--- `elf::Symbol::null` meets its contract. It needs no file: this one has the log of a wrong answer show the two sides. Assumes nothing.
+-- `elf::Symbol::null` meets its contract. No file is needed: with it a wrong answer's log shows both sides. Assumes nothing.
 use mathlib.Core.Path.{refl}
 use Rattle.elf.proofs.Symbol.null.Statement.{statement}
 use Rattle.elf.proofs.Symbol.null.Tie as tie

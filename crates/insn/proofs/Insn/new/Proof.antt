@@ -1,4 +1,4 @@
--- `insn::Insn::new` meets its contract. It needs no file: this one has the log of a wrong answer show the two sides. Assumes nothing.
+-- `insn::Insn::new` meets its contract. No file is needed: with it a wrong answer's log shows both sides. Assumes nothing.
 use mathlib.Core.Path.{refl}
 use Rattle.insn.proofs.Insn.new.Statement.{statement}
 use Rattle.insn.proofs.Insn.new.Tie as tie

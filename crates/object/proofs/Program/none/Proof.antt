@@ -1,4 +1,4 @@
--- `object::Program::none` meets its contract. It needs no file: this one has the log of a wrong answer show the two sides. Assumes nothing.
+-- `object::Program::none` meets its contract. No file is needed: with it a wrong answer's log shows both sides. Assumes nothing.
 use mathlib.Core.Path.{refl}
 use Rattle.object.proofs.Program.none.Statement.{statement}
 use Rattle.object.proofs.Program.none.Tie as tie

@@ -1,4 +1,4 @@
--- `utf8::Wait::idle` meets its contract. It needs no file: this one has the log of a wrong answer show the two sides. Assumes nothing.
+-- `utf8::Wait::idle` meets its contract. No file is needed: with it a wrong answer's log shows both sides. Assumes nothing.
 use mathlib.Core.Path.{refl}
 use Rattle.utf8.proofs.Wait.idle.Statement.{statement}
 use Rattle.utf8.proofs.Wait.idle.Tie as tie

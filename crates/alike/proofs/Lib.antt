@@ -1,2 +1,0 @@
-pub mod SameWritten
-pub mod Single
