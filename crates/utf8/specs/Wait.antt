@@ -21,7 +21,7 @@ pub record Fine (w : Wait) : Type 0 where
   pub left : w .left ≤ 3
   pub bits : w .bits + 504 * w .left ≤ 1519 + 31752 * (2 - w .left)
 
--- what a step tells of a byte: what it gives, or refusal 5 where it may not come
+-- what a step says of a byte: what it gives, or refusal 5 if it may not come there
 abbrev pub decodedTold : Decoded → Told Next
 decodedTold (Takes n) = gives n
 decodedTold Bad = refuses 5
@@ -35,7 +35,7 @@ nextTold (text.point c) = gives (Point c)
 nextTold (text.more w) = gives More
 nextTold text.bad = refuses 5
 
--- what is awaited after it, where `w` was before: nothing once a code point has ended; a byte that may not come changes nothing
+-- what is awaited after it, if `w` was before: nothing once a code point has ended; a byte that may not come changes nothing
 abbrev pub waitAfter : text.Wait → text.Next → text.Wait
 waitAfter w (text.point c) = text.idle
 waitAfter w (text.more v) = v

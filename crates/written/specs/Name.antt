@@ -3,7 +3,6 @@ use mathlib.Core.Option.{Option, none, some}
 use mathlib.Core.List.{List, []}
 use Prim.Native.Nat.{ℕ, zero, suc}
 use mathlib.Core.Bool.{cond}
-use Rattle.utf8.specs.Utf8.{points}
 use Rattle.written.specs.Written.{letter, letterOrDigit, writtenPoints, restWritten}
 
 -- what a code point is written as, after `n` others
@@ -19,7 +18,3 @@ rest (suc n) cs = restWritten cs
 abbrev pub restOf : ℕ → Option (List ℕ) → List ℕ
 restOf n none = []
 restOf n (some cs) = rest n cs
-
--- what bytes are written as, after `n` code points
-abbrev pub restFrom : ℕ → List ℕ → List ℕ
-restFrom n bs = restOf n (points bs)
