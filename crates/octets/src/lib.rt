@@ -1,5 +1,7 @@
 // Numbers and bytes in lent memory, for every writer and reader. All writers but `put_at` fill the whole part that they are lent, so that a
 // caller says by the part's bounds which bytes change.
+#![tactic(auto)]
+
 ghost use Rattle.std.specs.Prelude.{◌≡◌, ◌+◌, ◌^◌, ◌≤◌, ◌<◌, length, take, drop};
 ghost use Rattle.octets.specs.Octets.{le, value, zeros, equal};
 ghost use Rattle.octets.specs.Over.{over};
