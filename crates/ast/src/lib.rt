@@ -1,5 +1,6 @@
 // What a job declares: the types of map.rs of the original. An attribute that a declaration leaves out is absent, which is not the same as
 // present with 0.
+#![tactic(auto)]
 
 // A key's or a value's type.
 #[derive(Drop)]

@@ -1,4 +1,6 @@
 // The ELF container: places, string tables, sections, symbols and relocations, as elf.rs of the original has them.
+#![tactic(auto)]
+
 ghost use Rattle.std.specs.Prelude.{◌≡◌, [], ◌∷◌, ◌++◌, ◌+◌, ◌<◌, ◌^◌, length, take, drop};
 ghost use Rattle.elf.specs.Elf.{align_to, file_header, header_bytes, entry_bytes, rel_bytes};
 ghost use Rattle.elf.specs.Added.{Alignment, added};

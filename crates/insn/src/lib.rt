@@ -1,5 +1,7 @@
 // The eight bytes of a BPF instruction: insn.rs of the original. `off` and `imm` are unsigned here, since a job gives their bytes; the
 // original's signed numbers have the same bytes.
+#![tactic(auto)]
+
 ghost use Rattle.std.specs.Prelude.{◌≡◌};
 ghost use Rattle.insn.specs.Insn.{insn_of, insn_bytes};
 

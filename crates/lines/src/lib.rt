@@ -1,5 +1,7 @@
 // The job's text: where its lines end, and the hexadecimal in them. A byte is two characters, so byte `i` of a line is its characters 2 i
 // and 2 i + 1.
+#![tactic(auto)]
+
 ghost use Rattle.std.specs.Prelude.{◌≡◌, true, cond, eqb, ◌*◌, ◌+◌, ◌^◌, ◌≤◌, ◌<◌, length, take, drop, get_or};
 ghost use Rattle.std.proofs.Math.Option.{some};
 ghost use Rattle.octets.specs.Octets.{value};
