@@ -1,4 +1,6 @@
 // Frames: what a line of the job says, read from its hexadecimal. An answer has numbers and places; texts and code stay in the line.
+#![tactic(auto)]
+
 ghost use Rattle.std.specs.Prelude.{◌≡◌, true, ◌≤◌, length, drop};
 ghost use Rattle.octets.specs.Told.{told};
 ghost use Rattle.ast.specs.Numbers.{map_type_numbered, member_type_numbered};

@@ -1,4 +1,6 @@
 // UTF-8 as RFC 3629 gives it, of texts in hexadecimal.
+#![tactic(auto)]
+
 ghost use Rattle.std.specs.Prelude.{◌≡◌, true, cond, ◌+◌, ◌≤◌, ◌<◌, leb};
 ghost use Rattle.lines.specs.Hex.{is_hex, bytes_in};
 ghost use Rattle.utf8.specs.Utf8.{allowed, leads, continues, next, is_text, all_ascii, has_zero};

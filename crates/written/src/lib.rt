@@ -1,4 +1,6 @@
 // The names under which maps and programs are written.
+#![tactic(auto)]
+
 ghost use Rattle.std.specs.Prelude.{◌≡◌, true, cond, ◌+◌, ◌<◌, leb, length};
 ghost use Rattle.utf8.specs.Utf8.{is_text, all_ascii};
 ghost use Rattle.written.specs.Written.{letter, letter_or_digit, written, written_points, unnamed};

@@ -12,7 +12,7 @@ returns c =
     let l = n.before in
     let u = l.before.before.before.before.before in
     let e = u.make.ensures.0 in
-    (c.number_of_lem.ensures ∙ ap number_told e, (l.Line-of.ensures ∙ ap line_told e, (n.needed_of.ensures ∙ ap length_told e, u.make.ensures.1)))
+    (c.number_of.ensures ∙ ap number_told e, (l.Line-of.ensures ∙ ap line_told e, (n.needed_of.ensures ∙ ap length_told e, u.make.ensures.1)))
 
 returns-2 : tie.Need-returns-2
 returns-2 c =

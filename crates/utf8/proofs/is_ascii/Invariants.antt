@@ -1,0 +1,20 @@
+-- `utf8::is_ascii` meets its contract. Assumes nothing.
+use mathlib.Core.Path.{◌≡◌, refl, sym, ◌∙◌, ap}
+use mathlib.Core.Bool.{Bool, cond, ◌&&◌}
+use Prim.Native.Nat.{◌≤◌, ◌-◌}
+use native.Mathlib.Omega.{arith}
+use lib.Dec.{eqb}
+use lib.ListN.{length, drop}
+use borrow.Author.Rules.{rules}
+use Rattle.lines.specs.Hex.{bytes_in}
+use Rattle.lines.proofs.Bytes.{bytes_length}
+use Rattle.utf8.specs.Utf8.{all_ascii}
+use Rattle.utf8.proofs.Ascii.{ascii_on, ascii-done, first-digit}
+use Rattle.utf8.proofs.is_ascii.Given as goal
+
+abbrev pub invariant-loop-i : goal.invariant-loop-i
+invariant-loop-i l =
+    (l.i ≤ l.n) × (l.n ≡ length (bytes_in l.s)) × (all_ascii (bytes_in l.s) ≡ (eqb l.high 0 && all_ascii (drop l.i (bytes_in l.s))))
+
+abbrev pub decreases-loop-i : goal.decreases-loop-i
+decreases-loop-i l = l.n - l.i
