@@ -1,4 +1,6 @@
 // BTF tells a loader what the maps are. Its numbers are those of elf.rs of the original.
+#![tactic(auto)]
+
 ghost use Rattle.std.specs.Prelude.{◌≡◌, [], ◌∷◌, ◌+◌, ◌*◌, ◌≤◌, ◌<◌, ◌^◌, length};
 ghost use Rattle.octets.specs.Over.{over};
 ghost use Rattle.btf.specs.Btf.{info, type_bytes, int, ptr, array, var};

@@ -1,4 +1,6 @@
 // Why a job is refused: the table of refusals, and the number, the line and the length of each case.
+#![tactic(auto)]
+
 ghost use Rattle.std.specs.Prelude.{◌≡◌, ◌-◌, length};
 ghost use Rattle.refusals.specs.Refusal.{number_of, line_of, needed_of};
 

@@ -1,0 +1,36 @@
+-- `written::points_len` meets its contract. Assumes nothing.
+use mathlib.Core.Path.{◌≡◌, sym, ◌∙◌, ap, refl}
+use mathlib.Core.Bool.{true}
+use mathlib.Core.Option.{some}
+use mathlib.Core.List.{[]}
+use Prim.Native.Nat.{◌≤◌, ◌-◌, ◌+◌}
+use native.Mathlib.Omega.{arith}
+use lib.ListN.{length, drop}
+use borrow.Author.Rules.{rules}
+use Rattle.utf8.specs.Utf8.{points_from}
+use Rattle.utf8.specs.Wait.{wait_of, Fine}
+use Rattle.utf8.proofs.Laws.{took_any, took_point, took_more, took_none, ended_ok, idled, fine_idle, ok, not_bad, ok_start}
+use Rattle.written.specs.Written.{written}
+use Rattle.written.proofs.Chars.{len_of, len_start, len_on, len_end}
+use Rattle.written.proofs.points_len.Goals as goal
+
+pub loop-i-preserved-in-Point : goal.loop-i-preserved-in-Point
+loop-i-preserved-in-Point c =
+    let r = c.step-stepped.ensures in
+    let l = c.loop-i in
+    let s = c.args.s.now in
+    let t = took_point s l.i _ (wait_of l.w) _ (omega arith) refl r.result_value r.wait_value _ _ c.in-Takes.is c.in-Point.is in (
+      omega arith,
+      omega arith,
+      r.fine,
+      sym (took_any s l.i _ (wait_of l.w) _ (omega arith) refl r.result_value r.wait_value _ c.in-Takes.is) ∙ l.invariant.3,
+      l.invariant.4 ∙ ap (len_of l.n) t ∙ len_on l.n c.in-Point.field-0 (points_from (wait_of c.step-stepped.result.wait) (drop (l.i + 1) s)),
+    )
+
+pub loop-i-preserved : goal.loop-i-preserved
+loop-i-preserved c =
+    let r = c.step-stepped.ensures in
+    let l = c.loop-i in
+    let s = c.args.s.now in
+    let t = took_more s l.i _ (wait_of l.w) _ (omega arith) refl r.result_value r.wait_value _ c.in-Takes.is c.in-More.is in
+    (omega arith, omega arith, r.fine, sym (ap ok t) ∙ l.invariant.3, l.invariant.4 ∙ ap (len_of l.n) t)

@@ -1,0 +1,13 @@
+-- `written::sanitize_ident` meets its contract. Assumes nothing.
+use mathlib.Core.Path.{◌≡◌, sym, ◌∙◌, ap}
+use lib.ListN.{length}
+use borrow.Author.Rules.{rules}
+use Rattle.written.specs.Written.{written_points, written}
+use Rattle.written.proofs.Ascii.{written-ascii}
+use Rattle.written.proofs.sanitize_ident.Goals as goal
+
+pub put_ascii-requires : goal.put_ascii-requires
+put_ascii-requires c = c.requires.out_len ∙ ap length ((written-ascii c.args.s.now (sym c.is_ascii.ensures ∙ c.if-is_ascii.true)))
+
+pub returns-then-is_ascii : goal.returns-then-is_ascii
+returns-then-is_ascii c = c.put_ascii.ensures ∙ sym ((written-ascii c.args.s.now (sym c.is_ascii.ensures ∙ c.if-is_ascii.true)))
