@@ -3,7 +3,7 @@
 #![tactic(auto)]
 
 // A key's or a value's type.
-#[derive(Drop)]
+#[derive(Clone, Copy)]
 pub enum Type {
     U32,
     U64,
@@ -11,7 +11,7 @@ pub enum Type {
     I64,
 }
 
-#[derive(Drop)]
+#[derive(Clone, Copy)]
 pub enum MapType {
     Hash,
     Array,
@@ -21,14 +21,14 @@ pub enum MapType {
 }
 
 // A key's or a value's type that a declaration may leave out.
-#[derive(Drop)]
+#[derive(Clone, Copy)]
 pub enum TypeAttr {
     Absent,
     Present(Type),
 }
 
 // A number that a declaration may leave out.
-#[derive(Drop)]
+#[derive(Clone, Copy)]
 pub enum CountAttr {
     Absent,
     Present(u32),
@@ -36,7 +36,7 @@ pub enum CountAttr {
 
 // A name: the place of its first character in the job's text, and how many bytes it has. A text has at most 65,535 characters, a name at
 // most 64 bytes. Both numbers have one width, so that a table of names has no gaps and is cleared in one piece.
-#[derive(Drop)]
+#[derive(Clone, Copy)]
 pub struct Name {
     pub at: u16,
     pub len: u16,
@@ -48,7 +48,7 @@ impl Name {
 }
 
 // A map's declaration. Its name is kept beside it, as a place in the job's text.
-#[derive(Drop)]
+#[derive(Clone, Copy)]
 pub struct MapDecl {
     pub map_type: MapType,
     pub key_type: TypeAttr,

@@ -1,4 +1,6 @@
 // What is wrong with a frame's texts, by the table of refusals: one is no good text, or a limit is passed.
+#![tactic(auto)]
+
 ghost use Rattle.std.specs.Prelude.{◌≡◌, true, ◌||◌, ◌-◌, ◌<◌};
 ghost use Rattle.octets.specs.Told.{told_if};
 ghost use Rattle.lines.specs.Hex.{is_hex, bytes_in};

@@ -1,4 +1,6 @@
 // The lookup of a map: the last one that is declared under a raw name.
+#![tactic(auto)]
+
 ghost use Rattle.std.specs.Prelude.{◌≡◌, true, ◌*◌, ◌+◌, ◌-◌, ◌<◌};
 ghost use Rattle.lines.specs.Hex.{is_hex, bytes_in};
 ghost use Rattle.lookup.specs.Names.{Names, Finds, FoundIn};

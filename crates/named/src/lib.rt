@@ -1,5 +1,7 @@
 // Puts names, which are hexadecimal in the job's text, into lent memory: raw, or as they are written. Each function returns the place after
 // the name, so that a row of names is a row of calls.
+#![tactic(auto)]
+
 ghost use Rattle.std.specs.Prelude.{◌≡◌, [], ◌∷◌, ◌++◌, ◌+◌, ◌≤◌, length};
 ghost use Rattle.octets.specs.Over.{over};
 ghost use Rattle.written.specs.Written.{written};

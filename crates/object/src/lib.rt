@@ -1,19 +1,21 @@
 // `BpfObject`: the tables of a job. Names, code and offsets stay in the job's text, and the tables hold their places. A full table says so
 // and stays as it is.
+#![tactic(auto)]
+
 ghost use Rattle.std.specs.Prelude.{◌≡◌, leb};
 ghost use Rattle.octets.specs.Told.{gives, told_if};
 ghost use Rattle.object.specs.Tables.{no_program, empty_object, Sound, adding_told, with_license, added_map, added_program};
 
 use ast::{CountAttr, MapDecl, MapType, Name, TypeAttr};
 
-#[derive(Drop)]
+#[derive(Clone, Copy)]
 pub enum License {
     Gpl,
     Text(Name),
 }
 
 // Whether a slot has a relocation.
-#[derive(Drop)]
+#[derive(Clone, Copy)]
 pub enum Entry {
     Empty,
     Taken,
@@ -22,7 +24,7 @@ pub enum Entry {
 // A relocation: the number of its map, the place of its offset in the text, and how many bytes the map's name has, which follows the
 // offset. The numbers are beside the state and not inside it, so that no byte of an empty slot is unset and 256 slots are cleared in one
 // piece. In an empty slot they mean nothing.
-#[derive(Drop)]
+#[derive(Clone, Copy)]
 pub struct Slot {
     pub entry: Entry,
     pub map: u8,
@@ -32,7 +34,7 @@ pub struct Slot {
 
 // A program: its body is the `lines` lines of the text from `from` on, its code has `code_len` bytes, and its relocations are `relocs`
 // slots from `first` on.
-#[derive(Drop)]
+#[derive(Clone, Copy)]
 pub struct Program {
     pub section: Name,
     pub symbol: Name,

@@ -32,6 +32,6 @@ returns-in_default-value c =
 
 pub returns : goal.returns
 returns c = record {
-      result_value = c.read_entries.ensures.result_value ∙ ap (told 3) (attrs_types c.args.map_type c.args.p (drop 3 ((bytes_in c.args.s.now))) _ ((let r = c.read_type-first in sym (told-there 3 _ _ (sym (ap (type_is ((bytes_in c.args.s.now)) r.result.next) c.in-Is.is) ∙ r.ensures.result_value)))) _ ((let r = c.read_type-second in sym (told-there 3 _ _ (sym (ap (type_is ((bytes_in c.args.s.now)) r.result.next) c.in-Is-value.is) ∙ r.ensures.result_value)))));
-      placed_read = c.read_entries.ensures.placed_read;
-    }
+  result_value = c.read_entries.ensures.result_value ∙ ap (told 3) (attrs_types c.args.map_type c.args.p (drop 3 ((bytes_in c.args.s.now))) _ ((let r = c.read_type-first in sym (told-there 3 _ _ (sym (ap (type_is ((bytes_in c.args.s.now)) r.result.next) c.in-Is.is) ∙ r.ensures.result_value)))) _ ((let r = c.read_type-second in sym (told-there 3 _ _ (sym (ap (type_is ((bytes_in c.args.s.now)) r.result.next) c.in-Is-value.is) ∙ r.ensures.result_value)))));
+  placed_read = c.read_entries.ensures.placed_read;
+}

@@ -26,15 +26,15 @@ returns-in_default c =
 
 pub returns-then-p-gt7 : goal.returns-then-p-gt7
 returns-then-p-gt7 c = record {
-      result_value = ap (told 3) (map_presence (bytes_in c.args.s.now) _ _ c.byte_at.ensures c.byte_at-p.ensures ((omega (arith, bytes_length c.args.s.now c.requires))) _ ((told-there 3 _ _ (sym (ap kind_told c.in-Is.is) ∙ c.map_type_of-listed.ensures))) c.if-p-gt7.true);
-      placed_read = tt;
-    }
+  result_value = ap (told 3) (map_presence (bytes_in c.args.s.now) _ _ c.byte_at.ensures c.byte_at-p.ensures ((omega (arith, bytes_length c.args.s.now c.requires))) _ ((told-there 3 _ _ (sym (ap kind_told c.in-Is.is) ∙ c.map_type_of-listed.ensures))) c.if-p-gt7.true);
+  placed_read = tt;
+}
 
 pub read_attrs-requires : goal.read_attrs-requires
 read_attrs-requires c = record {
-      s_value = c.requires;
-      in_bounds = (omega (arith, bytes_length c.args.s.now c.requires));
-    }
+  s_value = c.requires;
+  in_bounds = (omega (arith, bytes_length c.args.s.now c.requires));
+}
 
 pub returns : goal.returns
 returns c =

@@ -21,9 +21,9 @@ returns-then-at-s c =
 
 pub byte_at-requires : goal.byte_at-requires
 byte_at-requires c = record {
-      s_value = c.requires.s_value;
-      i_in_bounds = omega (arith, bytes_length c.args.s.now c.requires.s_value, c.if-at-s.false);
-    }
+  s_value = c.requires.s_value;
+  i_in_bounds = omega (arith, bytes_length c.args.s.now c.requires.s_value, c.if-at-s.false);
+}
 
 pub returns-in_default : goal.returns-in_default
 returns-in_default c =

@@ -1,0 +1,30 @@
+-- `lookup::find_map` meets its contract: no map from `i` on has the name. Assumes nothing.
+use mathlib.Core.Path.{◌≡◌, refl, sym, ◌∙◌, ap}
+use mathlib.Core.List.{List}
+use Prim.Native.Nat.{ℕ, ◌-◌, ◌≤◌}
+use native.Mathlib.Omega.{arith}
+use lib.ListN.{length, take}
+use borrow.Author.Rules.{rules}
+use Rattle.octets.specs.Told.{told}
+use Rattle.lines.specs.Hex.{bytes_in}
+use Rattle.ast.specs.Job.{last_map}
+use Rattle.ast.specs.declared.MapDecl.{MapDecl}
+use Rattle.object.specs.Read.{maps_in}
+use Rattle.lookup.proofs.Names.{here, not_here}
+use Rattle.lookup.proofs.find_map.Goals as goal
+
+pub returns-then-same : goal.returns-then-same
+returns-then-same c =
+    let l = c.loop-i in
+    let a = c.args in record {
+      finds = (λ ds h. ap (told 7) (sym (l.invariant.1 ds h ∙ here a.text.now a.ats.now a.lens.now a.count a.name.now c.requires.names c.requires.name_value ds h l.i (omega arith) (omega arith) (sym c.if-same.true ∙ c.same.ensures))));
+      found_in = omega arith;
+    }
+
+pub loop-i-preserved : goal.loop-i-preserved
+loop-i-preserved c =
+    let l = c.loop-i in
+    let a = c.args in (
+      omega arith,
+      (λ ds h. l.invariant.1 ds h ∙ not_here a.text.now a.ats.now a.lens.now a.count a.name.now c.requires.names c.requires.name_value ds h l.i (omega arith) (omega arith) (sym c.if-same.false ∙ c.same.ensures)),
+    )
