@@ -1,4 +1,6 @@
 // A program's code: the bytes of its frames, one after the other.
+#![tactic(auto)]
+
 ghost use Rattle.std.specs.Prelude.{◌≡◌, true, ◌+◌, ◌≤◌, length, drop};
 ghost use Rattle.octets.specs.Over.{over};
 ghost use Rattle.lines.specs.Hex.{is_hex, bytes_in};

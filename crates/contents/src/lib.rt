@@ -1,5 +1,7 @@
 // The licence, and the relocations of a program. Each writer fills the part that it is lent, from the job's text and the places that the
 // tables keep.
+#![tactic(auto)]
+
 ghost use Rattle.std.specs.Prelude.{◌≡◌, true, [], ◌∷◌, ◌++◌, ◌+◌, ◌*◌, ◌≤◌, length, take, drop};
 ghost use Rattle.octets.specs.Octets.{value};
 ghost use Rattle.lines.specs.Hex.{is_hex};

@@ -1,5 +1,7 @@
 // The table of refusals for one frame: what the frame asks for, or why it is refused. Only numbers and places go in and out, so that no
 // table is copied for a frame.
+#![tactic(auto)]
+
 ghost use Rattle.std.specs.Prelude.{◌≡◌, List, ℕ, ◌*◌, ◌+◌, ◌-◌, ◌≤◌, ◌<◌, length, drop};
 ghost use Rattle.std.proofs.Math.Option.{some};
 ghost use Rattle.frames.specs.Shown.{shown, Placed};

@@ -1,4 +1,6 @@
 // The types of one map: those of its declared attributes, and the struct that names them.
+#![tactic(auto)]
+
 ghost use Rattle.std.specs.Prelude.{◌≡◌, ◌+◌, ◌^◌, ◌<◌, length};
 ghost use Rattle.octets.specs.Over.{over};
 ghost use Rattle.btf.specs.Maps.{type_id};

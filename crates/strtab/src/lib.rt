@@ -1,5 +1,7 @@
 // `.strtab`, the names of the symbols: its size and its bytes. Beside it are the numbers of the programs' sections, which the symbols and
 // the section headers need.
+#![tactic(auto)]
+
 ghost use Rattle.std.specs.Prelude.{◌≡◌, ◌+◌, ◌*◌, ◌≤◌, length, take};
 ghost use Rattle.octets.specs.Over.{over};
 ghost use Rattle.elf.specs.Row.{joined, size_of};

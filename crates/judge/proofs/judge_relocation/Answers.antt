@@ -1,0 +1,208 @@
+-- `judge::judge_relocation` meets its contract. Assumes nothing.
+use mathlib.Core.Path.{◌≡◌, refl, sym, ◌∙◌, ap, subst}
+use mathlib.Core.Bool.{Bool, true, false, ◌||◌}
+use mathlib.Core.Option.{none, some}
+use mathlib.Core.List.{List}
+use Prim.Native.Nat.{ℕ, ◌+◌, ◌-◌, ◌≤◌, ◌<◌}
+use native.Mathlib.Omega.{arith}
+use lib.Dec.{leb, eqb}
+use lib.ListN.{length, take, drop}
+use borrow.Author.Rules.{rules}
+use borrow.Author.Tests.{ltb-false, leb-false, eq-eqb, ne_eqb}
+use Rattle.octets.specs.Octets.{value}
+use Rattle.octets.specs.Told.{told, told_if}
+use Rattle.octets.proofs.Told.{told-there, told_none, told_holds, told_free}
+use Rattle.octets.proofs.Tests.{or_false_both}
+use Rattle.lines.proofs.Parts.{line_length}
+use Rattle.ast.specs.Job.{last_map}
+use Rattle.frames.specs.Frames.{Frame, relocation, frame_of}
+use Rattle.object.specs.Read.{frame_code}
+use Rattle.refusals.specs.Checked.{Stage, long, bad_name, first, reasons, relocated, went}
+use Rattle.flaws.specs.Flaws.{flaw_told, limit_told}
+use Rattle.lookup.specs.Names.{FoundIn, found_told}
+use Rattle.judge.specs.Judged.{line_bytes, relocation_frame_of, Agrees, Held}
+use Rattle.judge.proofs.Pieces.{Piece, rest, part_hex, part_bytes}
+use Rattle.judge.proofs.Judge.{stops, goes, found, missing, at_4, at_5, at_6, at_none}
+use Rattle.judge.proofs.Relocation.{reading, looked}
+use Rattle.judge.proofs.judge_relocation.Goals as goal
+
+-- the table's tests in a stage with these counts
+module _ (p : tie.Start) (s : Stage) (e : Agrees s p.args.counts) where
+  abbrev late : Bool
+  late = eqb (length s.job.programs) 0
+
+  abbrev over : Bool
+  over = leb 256 s.relocations || long (given p)
+
+  over-is : (b : Bool) → (full p || long (given p)) ≡ b → over ≡ b
+  over-is b q = ap (λ (n : ℕ). leb 256 n || long (given p)) e.relocs ∙ q
+
+  early : (p.args.counts.programs ≡ 0 → ⊥) → late ≡ false
+  early h = ne_eqb (length s.job.programs) 0 (λ z. h (omega (arith, e.programs)))
+
+pub slice_bounds-name_flaw-count : goal.slice_bounds-name_flaw-count
+slice_bounds-name_flaw-count c =
+    let inside : c.args.at + 18 ≤ c.args.end = (let a = c.args in let f = c.requires.framed in omega (arith, c.requires.in_bounds, f.first, line_length a.text.now a.at a.end (omega (arith, f.first)) f.last f.hex)) in
+    omega (arith, inside)
+
+pub slice_bounds-name_flaw-start : goal.slice_bounds-name_flaw-start
+slice_bounds-name_flaw-start c =
+    let inside : c.args.at + 18 ≤ c.args.end = (let a = c.args in let f = c.requires.framed in omega (arith, c.requires.in_bounds, f.first, line_length a.text.now a.at a.end (omega (arith, f.first)) f.last f.hex)) in
+    omega (arith, inside)
+
+pub name_flaw-flaw-requires : goal.name_flaw-flaw-requires
+name_flaw-flaw-requires c =
+    let inside : c.args.at + 18 ≤ c.args.end = (let a = c.args in let f = c.requires.framed in omega (arith, c.requires.in_bounds, f.first, line_length a.text.now a.at a.end (omega (arith, f.first)) f.last f.hex)) in
+    let piece = (let a = c.args in rest a.text.now a.at a.end c.requires.framed 9 (a.at + 18) (omega arith) (inside)) in
+    part_hex (piece)
+
+pub returns-in_default : goal.returns-in_default
+returns-in_default c =
+    let bytes = line_bytes c.args.text.now c.args.at c.args.end in
+    let given = drop 9 (bytes) in
+    let frame = relocation_frame_of (bytes) in
+    let says = c.requires.says in
+    let inside : c.args.at + 18 ≤ c.args.end = (let a = c.args in let f = c.requires.framed in omega (arith, c.requires.in_bounds, f.first, line_length a.text.now a.at a.end (omega (arith, f.first)) f.last f.hex)) in
+    let piece = (let a = c.args in rest a.text.now a.at a.end c.requires.framed 9 (a.at + 18) (omega arith) (inside)) in
+    let flaw = c.name_flaw-flaw.ensures ∙ ap (λ (x : List ℕ). told_if 5 (bad_name x)) (part_bytes (piece)) in
+    let t = given in
+    λ s e h. (
+      stops s (frame) (bytes) (says) 5
+          (at_5 (late c.before.before.before.before.before.before.before.before.before.before s e) (bad_name t) (over c.before.before.before.before.before.before.before.before.before.before s e) (early c.before.before.before.before.before.before.before.before.before.before s e c.if-counts-eq0.false) (told_holds 5 5 (bad_name t) (sym (ap flaw_told c.in_default.is) ∙ flaw))),
+      omega (arith, e.lines),
+    )
+
+pub slice_bounds-name_limit-count : goal.slice_bounds-name_limit-count
+slice_bounds-name_limit-count c =
+    let inside : c.args.at + 18 ≤ c.args.end = (let a = c.args in let f = c.requires.framed in omega (arith, c.requires.in_bounds, f.first, line_length a.text.now a.at a.end (omega (arith, f.first)) f.last f.hex)) in
+    omega (arith, inside)
+
+pub slice_bounds-name_limit-start : goal.slice_bounds-name_limit-start
+slice_bounds-name_limit-start c =
+    let inside : c.args.at + 18 ≤ c.args.end = (let a = c.args in let f = c.requires.framed in omega (arith, c.requires.in_bounds, f.first, line_length a.text.now a.at a.end (omega (arith, f.first)) f.last f.hex)) in
+    omega (arith, inside)
+
+pub name_limit-limit-requires : goal.name_limit-limit-requires
+name_limit-limit-requires c =
+    let inside : c.args.at + 18 ≤ c.args.end = (let a = c.args in let f = c.requires.framed in omega (arith, c.requires.in_bounds, f.first, line_length a.text.now a.at a.end (omega (arith, f.first)) f.last f.hex)) in
+    let piece = (let a = c.args in rest a.text.now a.at a.end c.requires.framed 9 (a.at + 18) (omega arith) (inside)) in
+    part_hex (piece)
+
+pub returns-in_default-limit : goal.returns-in_default-limit
+returns-in_default-limit c =
+    let bytes = line_bytes c.args.text.now c.args.at c.args.end in
+    let frame = relocation_frame_of (bytes) in
+    let says = c.requires.says in
+    let given = drop 9 (bytes) in
+    let inside : c.args.at + 18 ≤ c.args.end = (let a = c.args in let f = c.requires.framed in omega (arith, c.requires.in_bounds, f.first, line_length a.text.now a.at a.end (omega (arith, f.first)) f.last f.hex)) in
+    let piece = (let a = c.args in rest a.text.now a.at a.end c.requires.framed 9 (a.at + 18) (omega arith) (inside)) in
+    let flaw = c.name_flaw-flaw.ensures ∙ ap (λ (x : List ℕ). told_if 5 (bad_name x)) (part_bytes (piece)) in
+    let good = told_free 5 _ (sym (ap flaw_told c.in-Good.is) ∙ flaw) in
+    let full = leb 256 c.args.counts.relocs in
+    let limit = c.name_limit-limit.ensures ∙ ap (λ (x : List ℕ). told_if 6 (full || long x)) (part_bytes (piece)) in
+    λ s e h. (
+      stops s (frame) (bytes) (says) 6
+          (at_6 (late c.before.before.before.before.before.before.before.before.before.before.before.before.before.before.before s e) (bad_name (given)) (over c.before.before.before.before.before.before.before.before.before.before.before.before.before.before.before s e) (early c.before.before.before.before.before.before.before.before.before.before.before.before.before.before.before s e c.if-counts-eq0.left) (good)
+          (over-is c.before.before.before.before.before.before.before.before.before.before.before.before.before.before.before s e true (told_holds 6 6 (full || long (given)) (sym (ap limit_told c.in_default-limit.is) ∙ limit)))),
+      omega (arith, e.lines),
+    )
+
+pub slice_bounds-find_map-count : goal.slice_bounds-find_map-count
+slice_bounds-find_map-count c =
+    let inside : c.args.at + 18 ≤ c.args.end = (let a = c.args in let f = c.requires.framed in omega (arith, c.requires.in_bounds, f.first, line_length a.text.now a.at a.end (omega (arith, f.first)) f.last f.hex)) in
+    omega (arith, inside)
+
+pub slice_bounds-find_map-start : goal.slice_bounds-find_map-start
+slice_bounds-find_map-start c =
+    let inside : c.args.at + 18 ≤ c.args.end = (let a = c.args in let f = c.requires.framed in omega (arith, c.requires.in_bounds, f.first, line_length a.text.now a.at a.end (omega (arith, f.first)) f.last f.hex)) in
+    omega (arith, inside)
+
+pub find_map-found-requires : goal.find_map-found-requires
+find_map-found-requires c =
+    let inside : c.args.at + 18 ≤ c.args.end = (let a = c.args in let f = c.requires.framed in omega (arith, c.requires.in_bounds, f.first, line_length a.text.now a.at a.end (omega (arith, f.first)) f.last f.hex)) in
+    let piece = (let a = c.args in rest a.text.now a.at a.end c.requires.framed 9 (a.at + 18) (omega arith) (inside)) in record {
+      name_value = part_hex (piece);
+      names = c.requires.names;
+    }
+
+pub returns-in_default-found : goal.returns-in_default-found
+returns-in_default-found c =
+    let bytes = line_bytes c.args.text.now c.args.at c.args.end in
+    let frame = relocation_frame_of (bytes) in
+    let says = c.requires.says in
+    let opened : ⊥ = c.if-counts-eq0.false in
+    let given = drop 9 (bytes) in
+    let inside : c.args.at + 18 ≤ c.args.end = (let a = c.args in let f = c.requires.framed in omega (arith, c.requires.in_bounds, f.first, line_length a.text.now a.at a.end (omega (arith, f.first)) f.last f.hex)) in
+    let piece = (let a = c.args in rest a.text.now a.at a.end c.requires.framed 9 (a.at + 18) (omega arith) (inside)) in
+    let flaw = c.name_flaw-flaw.ensures ∙ ap (λ (x : List ℕ). told_if 5 (bad_name x)) (part_bytes (piece)) in
+    let good = told_free 5 _ (sym (ap flaw_told c.in-Good.is) ∙ flaw) in
+    let full = leb 256 c.args.counts.relocs in
+    let limit = c.name_limit-limit.ensures ∙ ap (λ (x : List ℕ). told_if 6 (full || long x)) (part_bytes (piece)) in
+    let kept = told_free 6 _ (sym (ap limit_told c.in-Kept.is) ∙ limit) in
+    let offset = value (take 8 (drop 1 (bytes))) in
+    λ s e h. (
+      goes s (frame) (bytes) (says) ((at_none (late c.before.before.before.before.before.before.before.before.before.before.before.before.before.before.before.before.before.before.before s e) (bad_name (given)) (over c.before.before.before.before.before.before.before.before.before.before.before.before.before.before.before.before.before.before.before s e) (early c.before.before.before.before.before.before.before.before.before.before.before.before.before.before.before.before.before.before.before s e (opened)) (good) (over-is c.before.before.before.before.before.before.before.before.before.before.before.before.before.before.before.before.before.before.before s e false (kept))))
+          ∙ missing s (offset) (given) (told_none 7 7 _ (sym (ap found_told c.in_default-found.is) ∙ (looked c.args.text.now c.args.ats.now c.args.lens.now c.args.counts.maps (take (c.args.end - (c.args.at + 18)) (drop (c.args.at + 18) c.args.text.now)) (given) c.find_map-found.result s (part_bytes (piece)) e.maps h c.find_map-found.ensures.finds))),
+      omega (arith, e.lines),
+    )
+
+pub slot_at-requires : goal.slot_at-requires
+slot_at-requires c =
+    let inside : c.args.at + 18 ≤ c.args.end = (let a = c.args in let f = c.requires.framed in omega (arith, c.requires.in_bounds, f.first, line_length a.text.now a.at a.end (omega (arith, f.first)) f.last f.hex)) in
+    let bytes = line_bytes c.args.text.now c.args.at c.args.end in
+    let given = drop 9 (bytes) in
+    let full = leb 256 c.args.counts.relocs in
+    let piece = (let a = c.args in rest a.text.now a.at a.end c.requires.framed 9 (a.at + 18) (omega arith) (inside)) in
+    let limit = c.name_limit-limit.ensures ∙ ap (λ (x : List ℕ). told_if 6 (full || long x)) (part_bytes (piece)) in
+    let kept = told_free 6 _ (sym (ap limit_told c.in-Kept.is) ∙ limit) in
+    let short : c.args.end ≤ c.args.at + 18 + 128 = omega (arith, ltb-false 64 (length (given)) (or_false_both (full) (long (given)) (kept)).1, (piece).count, (piece).even) in
+    let i : c.in-At.map < c.args.counts.maps = subst (FoundIn c.args.counts.maps) c.in-At.is c.find_map-found.ensures.found_in in record {
+      at_bound = inside;
+      end_bound = omega (arith, c.requires.framed.few, c.requires.framed.last);
+      end_bound_2 = short;
+      map_bound = omega (arith, c.requires.maps_bound);
+    }
+
+pub returns : goal.returns
+returns c =
+    let full = leb 256 c.args.counts.relocs in
+    let bytes = line_bytes c.args.text.now c.args.at c.args.end in
+    let given = drop 9 (bytes) in
+    let inside : c.args.at + 18 ≤ c.args.end = (let a = c.args in let f = c.requires.framed in omega (arith, c.requires.in_bounds, f.first, line_length a.text.now a.at a.end (omega (arith, f.first)) f.last f.hex)) in
+    let piece = (let a = c.args in rest a.text.now a.at a.end c.requires.framed 9 (a.at + 18) (omega arith) (inside)) in
+    let limit = c.name_limit-limit.ensures ∙ ap (λ (x : List ℕ). told_if 6 (full || long x)) (part_bytes (piece)) in
+    let kept = told_free 6 _ (sym (ap limit_told c.in-Kept.is) ∙ limit) in
+    let frame = relocation_frame_of (bytes) in
+    let says = c.requires.says in
+    let opened : ⊥ = c.if-counts-eq0.false in
+    let flaw = c.name_flaw-flaw.ensures ∙ ap (λ (x : List ℕ). told_if 5 (bad_name x)) (part_bytes (piece)) in
+    let good = told_free 5 _ (sym (ap flaw_told c.in-Good.is) ∙ flaw) in
+    let offset = value (take 8 (drop 1 (bytes))) in
+    let short : c.args.end ≤ c.args.at + 18 + 128 = omega (arith, ltb-false 64 (length (given)) (or_false_both (full) (long (given)) (kept)).1, (piece).count, (piece).even) in
+    let a = c.args in
+    let n = leb-false 256 a.counts.relocs (or_false_both (full) (long (given)) (kept)).0 in
+    λ s e h.
+    let l = told-there 7 _ _ (sym (ap found_told c.in-At.is) ∙ (looked c.args.text.now c.args.ats.now c.args.lens.now c.args.counts.maps (take (c.args.end - (c.args.at + 18)) (drop (c.args.at + 18) c.args.text.now)) (given) c.find_map-found.result s (part_bytes (piece)) e.maps h c.find_map-found.ensures.finds)) in
+    let r = reading a.text.now a.at a.end c.requires.framed (inside) in
+    rw c.slot_at.ensures (
+      goes s (frame) (bytes) (says) ((at_none (late c.before.before.before.before.before.before.before.before.before.before.before.before.before.before.before.before.before.before.before.before.before s e) (bad_name (given)) (over c.before.before.before.before.before.before.before.before.before.before.before.before.before.before.before.before.before.before.before.before.before s e) (early c.before.before.before.before.before.before.before.before.before.before.before.before.before.before.before.before.before.before.before.before.before s e (opened)) (good) (over-is c.before.before.before.before.before.before.before.before.before.before.before.before.before.before.before.before.before.before.before.before.before s e false (kept)))) ∙ found s (offset) (given) c.in-At.map l
+          ∙ relocated-at s c.in-At.map (ap value (sym r.offset)) (sym r.name),
+      refl,
+      record {
+        (let a = =.args in let f = =.requires.0 in omega (arith, =.requires.1.1.1.0, f.first, line_length a.text.now a.at a.end (omega (arith, f.first)) f.last f.hex)) omega (arith, inside, c.requires.framed.last);
+        hex = r.hex;
+        last = ap (λ (x : List ℕ). last_map x s.job.maps) r.name ∙ l;
+        (let p = ((((=.before.before.before.before.before)).before.before.before.before.before.before.before.before.before.before)) in omega (arith, ltb-false 64 (length ((drop 9 ((line_bytes p.args.text.now p.args.at p.args.end))))) (or_false_both ((leb 256 p.args.counts.relocs)) (long ((drop 9 ((line_bytes p.args.text.now p.args.at p.args.end))))) ((told_free 6 _ (sym (ap limit_told =.enum-told3.given.1) ∙ (let p = (((=.before.before.before.before.before)).before.before.before.before.before.before.before.before.before.before) in =.before.before.name_limit.ensures ∙ ap (λ (x : List ℕ). told_if 6 ((leb 256 p.args.counts.relocs) || long x)) (part_bytes ((let a = p.args in rest a.text.now a.at a.end p.requires.0 9 (a.at + 18) (omega arith) ((let a = p.args in let f = p.requires.0 in omega (arith, p.requires.1.1.1.0, f.first, line_length a.text.now a.at a.end (omega (arith, f.first)) f.last f.hex))))))))))).1, ((let a = p.args in rest a.text.now a.at a.end p.requires.0 9 (a.at + 18) (omega arith) ((let a = p.args in let f = p.requires.0 in omega (arith, p.requires.1.1.1.0, f.first, line_length a.text.now a.at a.end (omega (arith, f.first)) f.last f.hex))))).count, ((let a = p.args in rest a.text.now a.at a.end p.requires.0 9 (a.at + 18) (omega arith) ((let a = p.args in let f = p.requires.0 in omega (arith, p.requires.1.1.1.0, f.first, line_length a.text.now a.at a.end (omega (arith, f.first)) f.last f.hex))))).even)) omega (arith, short);
+      },
+      omega (arith, e.relocs),
+      omega (arith, e.programs, opened),
+      ap frame_code (says),
+      says ∙ same-frame (ap value (sym r.offset)) (sym r.name),
+    )
+  where
+    same-frame : {x y : ℕ} {a b : List ℕ} → x ≡ y → a ≡ b → some (relocation x a) ≡ some (relocation y b)
+    same-frame e c.before.before.before.before = rw (e, c.before.before.before.before)
+
+    relocated-at : {x y : ℕ} {a b : List ℕ} (s : Stage) (c.before.before.before.before.before.before : ℕ) → x ≡ y → a ≡ b
+        → went (relocated s (record { (value (take 8 (drop 1 ((line_bytes =.args.text.now =.args.at =.args.end))))) x; map = a; number = c.before.before.before.before.before.before })) ≡ went (relocated s (record { (value (take 8 (drop 1 ((line_bytes =.args.text.now =.args.at =.args.end))))) y; map = b; number = c.before.before.before.before.before.before }))
+    relocated-at s c.before.before.before.before.before.before e c.before.before.before.before = rw (e, c.before.before.before.before)

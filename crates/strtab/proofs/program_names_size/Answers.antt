@@ -1,0 +1,34 @@
+-- `strtab::program_names_size` meets its contract. Assumes nothing.
+use mathlib.Core.Path.{◌≡◌, refl, sym, ◌∙◌, ap}
+use mathlib.Core.List.{List, [], ◌∷◌, ◌++◌}
+use Prim.Native.Nat.{ℕ, ◌+◌, ◌-◌, ◌*◌, ◌≤◌, ◌<◌}
+use native.Mathlib.Omega.{arith}
+use lib.ListN.{length, take, drop, get_or}
+use borrow.Author.Rules.{rules}
+use Rattle.elf.specs.Row.{size_of}
+use Rattle.named.proofs.There.{kept_program}
+use Rattle.strtab.specs.Rows.{program_names, ProgramsThere}
+use Rattle.strtab.proofs.Rows.{program_name_from, program_name_end}
+use Rattle.strtab.proofs.program_names_size.Goals as goal
+
+pub written_size-requires : goal.written_size-requires
+written_size-requires c =
+    let l = c.loop-i in
+    let a = c.args in
+    (kept_program a.text.now 256 a.programs a.count l.i (omega (arith, l.invariant.2)) (omega arith) l.invariant.2.kept).symbol
+
+pub loop-i-preserved : goal.loop-i-preserved
+loop-i-preserved c =
+    let l = c.loop-i in
+    let a = c.args in
+    let e = ap size_of (program_name_from a.text.now a.programs a.count l.i l.invariant.2 (omega arith)) in
+    (omega arith, omega (arith, c.written_size.ensures.upper_bound), l.invariant.2, omega (arith, e, l.invariant.3, c.written_size.ensures.value))
+
+pub returns : goal.returns
+returns c =
+    let l = c.loop-i in
+    let a = c.args in
+    let e = ap size_of (program_name_end a.text.now a.programs a.count l.i (omega arith)) in record {
+      value = omega (arith, e, l.invariant.3);
+      upper_bound = omega (arith, l.invariant.1);
+    }
