@@ -1,4 +1,6 @@
 // `.shstrtab`, the names of the object's sections in their order.
+#![tactic(auto)]
+
 ghost use Rattle.std.specs.Prelude.{◌≡◌, [], ◌∷◌, ◌++◌, ◌+◌, ◌*◌, ◌≤◌, length, take};
 ghost use Rattle.octets.specs.Octets.{ascii};
 ghost use Rattle.octets.specs.Over.{over};

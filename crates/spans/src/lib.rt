@@ -1,4 +1,6 @@
 // How much room maps take: in `.maps`, and in the types and the strings of `.BTF`.
+#![tactic(auto)]
+
 ghost use Rattle.std.specs.Prelude.{◌≡◌, ◌+◌, ◌*◌, ◌≤◌, ◌<◌, length, take};
 ghost use Rattle.btf.specs.Maps.{type_count, btf_types};
 ghost use Rattle.btf.specs.Btf.{start, add_types};

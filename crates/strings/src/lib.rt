@@ -1,4 +1,6 @@
 // The string table of `.BTF`: the names of the ints, then for each map those of its members and its own, and the section's name.
+#![tactic(auto)]
+
 ghost use Rattle.std.specs.Prelude.{◌≡◌, ◌+◌, ◌≤◌, ◌<◌, length};
 ghost use Rattle.octets.specs.Over.{over};
 ghost use Rattle.object.specs.Read.{map_in};

@@ -1,4 +1,6 @@
 // `.symtab`: the null symbol, LICENSE, the maps and the programs. Crate strtab writes their names, in the same order.
+#![tactic(auto)]
+
 ghost use Rattle.std.specs.Prelude.{◌≡◌, ◌+◌, ◌*◌, ◌≤◌, length, take};
 ghost use Rattle.octets.specs.Over.{over};
 ghost use Rattle.named.specs.There.{MapsThere, Lent};

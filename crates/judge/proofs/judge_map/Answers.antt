@@ -17,26 +17,24 @@ use Rattle.utf8.specs.Utf8.{is_text}
 use Rattle.frames.specs.Frames.{Frame}
 use Rattle.refusals.specs.Checked.{Stage, long, bad_name, added}
 use Rattle.flaws.specs.Flaws.{flaw_told, limit_told}
+use Rattle.judge.specs.declared.Counts.{Counts}
 use Rattle.judge.specs.Judged.{line_bytes, map_frame_of, Agrees}
 use Rattle.judge.proofs.Pieces.{Piece, rest, part_hex, part_bytes, piece_name, piece_named}
 use Rattle.judge.proofs.Judge.{stops, goes, at_4, at_5, at_6, at_none}
 use Rattle.judge.proofs.judge_map.Goals as goal
 
 -- the table's tests in a stage with these counts
-module _ (p : tie.Start) (s : Stage) (e : Agrees s p.args.counts) where
-  abbrev late : Bool
-  late = ltb 0 (length s.job.programs)
+abbrev late : Stage → Bool
+late s = ltb 0 (length s.job.programs)
 
-  abbrev over : Bool
-  over = leb 64 (length s.job.maps) || long (given p)
+abbrev over : Stage → List ℕ → Bool
+over s t = leb 64 (length s.job.maps) || long t
 
-  over-is : (b : Bool) → (full p || long (given p)) ≡ b → over ≡ b
-  over-is b q = ap (λ (n : ℕ). leb 64 n || long (given p)) e.maps ∙ q
+over-is : (s : Stage) (k : Counts) (t : List ℕ) → Agrees s k → (b : Bool) → (leb 64 k.maps || long t) ≡ b → over s t ≡ b
+over-is s k t e b q = ap (λ (n : ℕ). leb 64 n || long t) e.maps ∙ q
 
-  early : p.args.counts.programs ≤ 0 → late ≡ false
-  early h = le-ltb 0 (length s.job.programs) (omega (arith, e.programs))
-
--- ---- the answers
+early : (s : Stage) (k : Counts) → Agrees s k → k.programs ≤ 0 → late s ≡ false
+early s k e h = le-ltb 0 (length s.job.programs) (omega (arith, e.programs))
 
 pub overflow_mul-from : goal.overflow_mul-from
 overflow_mul-from c =
@@ -75,7 +73,7 @@ returns-in_default c =
     let t = given in
     λ s e. (
       stops s (frame) (bytes) c.requires.says 5
-          (at_5 (late c.before.before.before.before.before.before.before.before s e) (bad_name t) (over c.before.before.before.before.before.before.before.before s e) (early c.before.before.before.before.before.before.before.before s e (omega arith)) (told_holds 5 5 (bad_name t) (sym (ap flaw_told c.in_default.is) ∙ flaw))),
+          (at_5 (late s) (bad_name t) (over s given) (early s c.args.counts e (omega arith)) (told_holds 5 5 (bad_name t) (sym (ap flaw_told c.in_default.is) ∙ flaw))),
       omega (arith, e.lines),
     )
 
@@ -108,8 +106,8 @@ returns-in_default-limit c =
     let limit = c.name_limit-limit.ensures ∙ ap (λ (x : List ℕ). told_if 6 (full || long x)) (part_bytes (piece)) in
     λ s e. (
       stops s (frame) (bytes) c.requires.says 6
-          (at_6 (late c.before.before.before.before.before.before.before.before.before.before.before.before.before s e) (bad_name (given)) (over c.before.before.before.before.before.before.before.before.before.before.before.before.before s e) (early c.before.before.before.before.before.before.before.before.before.before.before.before.before s e (omega arith)) (good)
-          (over-is c.before.before.before.before.before.before.before.before.before.before.before.before.before s e true (told_holds 6 6 (full || long (given)) (sym (ap limit_told c.in_default-limit.is) ∙ limit)))),
+          (at_6 (late s) (bad_name (given)) (over s given) (early s c.args.counts e (omega arith)) (good)
+          (over-is s c.args.counts given e true (told_holds 6 6 (full || long (given)) (sym (ap limit_told c.in_default-limit.is) ∙ limit)))),
       omega (arith, e.lines),
     )
 
@@ -147,7 +145,7 @@ returns c =
     let m = leb-false 64 c.args.counts.maps (or_false_both (full) (long t) (kept)).0 in
     λ s e. rw c.name_at-name.ensures (
       goes s (frame) (bytes) c.requires.says
-          (at_none (late c.before.before.before.before.before.before.before.before.before.before.before.before.before.before s e) (bad_name t) (over c.before.before.before.before.before.before.before.before.before.before.before.before.before.before s e) (early c.before.before.before.before.before.before.before.before.before.before.before.before.before.before s e (omega arith)) (good) (over-is c.before.before.before.before.before.before.before.before.before.before.before.before.before.before s e false (kept)))
+          (at_none (late s) (bad_name t) (over s given) (early s c.args.counts e (omega arith)) (good) (over-is s c.args.counts given e false (kept)))
           ∙ ap (λ (n : List ℕ). added s (map_frame_of c.args.decl n)) (sym (piece_name (piece))),
       (piece_named (piece) (inside) c.requires.framed.last (not-false (is_text t) (good)) (short), omega (arith, e.maps), omega (arith, e.programs)),
       c.requires.says ∙ ap (λ (n : List ℕ). some (map_frame_of c.args.decl n)) (sym (piece_name (piece))),

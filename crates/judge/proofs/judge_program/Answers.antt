@@ -17,18 +17,18 @@ use Rattle.utf8.specs.Utf8.{is_text, has_zero}
 use Rattle.frames.specs.Frames.{Frame, program}
 use Rattle.refusals.specs.Checked.{Stage, long, bad_name, bad_string, bad_program, added}
 use Rattle.flaws.specs.Flaws.{flaw_told, limit_told}
+use Rattle.judge.specs.declared.Counts.{Counts}
 use Rattle.judge.specs.Judged.{line_bytes, Agrees}
 use Rattle.judge.proofs.Pieces.{Piece, middle, rest, part_hex, part_bytes, piece_name, piece_named}
 use Rattle.judge.proofs.Judge.{stops, goes, at_5, at_6, at_none}
 use Rattle.judge.proofs.judge_program.Goals as goal
 
 -- the table's tests in a stage with these counts
-module _ (p : tie.Start) (s : Stage) (e : Agrees s p.args.counts) where
-  abbrev over : Bool
-  over = leb 32 (length s.job.programs) || long (section_of p) || long (symbol_of p)
+abbrev over : Stage → List ℕ → List ℕ → Bool
+over s a b = leb 32 (length s.job.programs) || long a || long b
 
-  over-is : (b : Bool) → (full p || long (section_of p) || long (symbol_of p)) ≡ b → over ≡ b
-  over-is b q = ap (λ (n : ℕ). leb 32 n || long (section_of p) || long (symbol_of p)) e.programs ∙ q
+over-is : (s : Stage) (k : Counts) (x y : List ℕ) → Agrees s k → (b : Bool) → (leb 32 k.programs || long x || long y) ≡ b → over s x y ≡ b
+over-is s k x y e b q = ap (λ (n : ℕ). leb 32 n || long x || long y) e.programs ∙ q
 
 same-flaw : {a b x y : List ℕ} → a ≡ x → b ≡ y → told_if 5 (bad_program a b) ≡ told_if 5 (bad_program x y)
 same-flaw e f = rw (e, f)
@@ -90,7 +90,7 @@ returns-in_default c =
     let flaw = c.program_flaw-flaw.ensures ∙ same-flaw (part_bytes (first_piece)) (part_bytes (second-piece)) in
     λ s e. (
       stops s (frame) (bytes) c.requires.says 5
-          (at_5 false (bad_program (section_of) (symbol_of)) (over c.before.before.before.before.before.before.before s e) refl (told_holds 5 5 (bad_program (section_of) (symbol_of)) (sym (ap flaw_told c.in_default.is) ∙ flaw))),
+          (at_5 false (bad_program (section_of) (symbol_of)) (over s section_of symbol_of) refl (told_holds 5 5 (bad_program (section_of) (symbol_of)) (sym (ap flaw_told c.in_default.is) ∙ flaw))),
       omega (arith, e.lines),
     )
 
@@ -128,8 +128,8 @@ returns-in_default-limit c =
     let limit = c.program_limit-limit.ensures ∙ same-limit (full) (part_bytes (first_piece)) (part_bytes (second-piece)) in
     λ s e. (
       stops s (frame) (bytes) c.requires.says 6
-          (at_6 false (bad_program (section_of) (symbol_of)) (over c.before.before.before.before.before.before.before.before.before.before.before.before.before s e) refl (good)
-          (over-is c.before.before.before.before.before.before.before.before.before.before.before.before.before s e true (told_holds 6 6 (full || long (section_of) || long (symbol_of)) (sym (ap limit_told c.in_default-limit.is) ∙ limit)))),
+          (at_6 false (bad_program (section_of) (symbol_of)) (over s section_of symbol_of) refl (good)
+          (over-is s c.args.counts section_of symbol_of e true (told_holds 6 6 (full || long (section_of) || long (symbol_of)) (sym (ap limit_told c.in_default-limit.is) ∙ limit)))),
       omega (arith, e.lines),
     )
 
@@ -194,7 +194,7 @@ returns c =
     let m = leb-false 32 c.args.counts.programs (or_false_both (full) (long (section_of)) (room)).0 in
     λ s e. rw (c.name_at-section.ensures, c.name_at-symbol.ensures) (
       goes s (frame) (bytes) c.requires.says
-          (at_none false (bad_program (section_of) (symbol_of)) (over c.before.before.before.before.before.before.before.before.before.before.before.before.before.before.before s e) refl (good) (over-is c.before.before.before.before.before.before.before.before.before.before.before.before.before.before.before s e false (kept)))
+          (at_none false (bad_program (section_of) (symbol_of)) (over s section_of symbol_of) refl (good) (over-is s c.args.counts section_of symbol_of e false (kept)))
           ∙ named s (piece_name (first_piece)) (piece_name (second-piece)),
       (
         piece_named (first_piece) (omega (arith, c.requires.le_symbol)) (omega (arith, inside, c.requires.framed.last)) (text-section) (short-section),

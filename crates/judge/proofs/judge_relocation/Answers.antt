@@ -20,6 +20,7 @@ use Rattle.object.specs.Read.{frame_code}
 use Rattle.refusals.specs.Checked.{Stage, long, bad_name, first, reasons, relocated, went}
 use Rattle.flaws.specs.Flaws.{flaw_told, limit_told}
 use Rattle.lookup.specs.Names.{FoundIn, found_told}
+use Rattle.judge.specs.declared.Counts.{Counts}
 use Rattle.judge.specs.Judged.{line_bytes, relocation_frame_of, Agrees, Held}
 use Rattle.judge.proofs.Pieces.{Piece, rest, part_hex, part_bytes}
 use Rattle.judge.proofs.Judge.{stops, goes, found, missing, at_4, at_5, at_6, at_none}
@@ -27,18 +28,17 @@ use Rattle.judge.proofs.Relocation.{reading, looked}
 use Rattle.judge.proofs.judge_relocation.Goals as goal
 
 -- the table's tests in a stage with these counts
-module _ (p : tie.Start) (s : Stage) (e : Agrees s p.args.counts) where
-  abbrev late : Bool
-  late = eqb (length s.job.programs) 0
+abbrev late : Stage → Bool
+late s = eqb (length s.job.programs) 0
 
-  abbrev over : Bool
-  over = leb 256 s.relocations || long (given p)
+abbrev over : Stage → List ℕ → Bool
+over s t = leb 256 s.relocations || long t
 
-  over-is : (b : Bool) → (full p || long (given p)) ≡ b → over ≡ b
-  over-is b q = ap (λ (n : ℕ). leb 256 n || long (given p)) e.relocs ∙ q
+over-is : (s : Stage) (k : Counts) (t : List ℕ) → Agrees s k → (b : Bool) → (leb 256 k.relocs || long t) ≡ b → over s t ≡ b
+over-is s k t e b q = ap (λ (n : ℕ). leb 256 n || long t) e.relocs ∙ q
 
-  early : (p.args.counts.programs ≡ 0 → ⊥) → late ≡ false
-  early h = ne_eqb (length s.job.programs) 0 (λ z. h (omega (arith, e.programs)))
+early : (s : Stage) (k : Counts) → Agrees s k → (k.programs ≡ 0 → ⊥) → late s ≡ false
+early s k e h = ne_eqb (length s.job.programs) 0 (λ z. h (omega (arith, e.programs)))
 
 pub slice_bounds-name_flaw-count : goal.slice_bounds-name_flaw-count
 slice_bounds-name_flaw-count c =
@@ -68,7 +68,7 @@ returns-in_default c =
     let t = given in
     λ s e h. (
       stops s (frame) (bytes) (says) 5
-          (at_5 (late c.before.before.before.before.before.before.before.before.before.before s e) (bad_name t) (over c.before.before.before.before.before.before.before.before.before.before s e) (early c.before.before.before.before.before.before.before.before.before.before s e c.if-counts-eq0.false) (told_holds 5 5 (bad_name t) (sym (ap flaw_told c.in_default.is) ∙ flaw))),
+          (at_5 (late s) (bad_name t) (over s given) (early s c.args.counts e c.if-counts-eq0.false) (told_holds 5 5 (bad_name t) (sym (ap flaw_told c.in_default.is) ∙ flaw))),
       omega (arith, e.lines),
     )
 
@@ -102,8 +102,8 @@ returns-in_default-limit c =
     let limit = c.name_limit-limit.ensures ∙ ap (λ (x : List ℕ). told_if 6 (full || long x)) (part_bytes (piece)) in
     λ s e h. (
       stops s (frame) (bytes) (says) 6
-          (at_6 (late c.before.before.before.before.before.before.before.before.before.before.before.before.before.before.before s e) (bad_name (given)) (over c.before.before.before.before.before.before.before.before.before.before.before.before.before.before.before s e) (early c.before.before.before.before.before.before.before.before.before.before.before.before.before.before.before s e c.if-counts-eq0.left) (good)
-          (over-is c.before.before.before.before.before.before.before.before.before.before.before.before.before.before.before s e true (told_holds 6 6 (full || long (given)) (sym (ap limit_told c.in_default-limit.is) ∙ limit)))),
+          (at_6 (late s) (bad_name (given)) (over s given) (early s c.args.counts e c.if-counts-eq0.left) (good)
+          (over-is s c.args.counts given e true (told_holds 6 6 (full || long (given)) (sym (ap limit_told c.in_default-limit.is) ∙ limit)))),
       omega (arith, e.lines),
     )
 
@@ -141,7 +141,7 @@ returns-in_default-found c =
     let kept = told_free 6 _ (sym (ap limit_told c.in-Kept.is) ∙ limit) in
     let offset = value (take 8 (drop 1 (bytes))) in
     λ s e h. (
-      goes s (frame) (bytes) (says) ((at_none (late c.before.before.before.before.before.before.before.before.before.before.before.before.before.before.before.before.before.before.before s e) (bad_name (given)) (over c.before.before.before.before.before.before.before.before.before.before.before.before.before.before.before.before.before.before.before s e) (early c.before.before.before.before.before.before.before.before.before.before.before.before.before.before.before.before.before.before.before s e (opened)) (good) (over-is c.before.before.before.before.before.before.before.before.before.before.before.before.before.before.before.before.before.before.before s e false (kept))))
+      goes s (frame) (bytes) (says) ((at_none (late s) (bad_name (given)) (over s given) (early s c.args.counts e (opened)) (good) (over-is s c.args.counts given e false (kept))))
           ∙ missing s (offset) (given) (told_none 7 7 _ (sym (ap found_told c.in_default-found.is) ∙ (looked c.args.text.now c.args.ats.now c.args.lens.now c.args.counts.maps (take (c.args.end - (c.args.at + 18)) (drop (c.args.at + 18) c.args.text.now)) (given) c.find_map-found.result s (part_bytes (piece)) e.maps h c.find_map-found.ensures.finds))),
       omega (arith, e.lines),
     )
@@ -185,14 +185,14 @@ returns c =
     let l = told-there 7 _ _ (sym (ap found_told c.in-At.is) ∙ (looked c.args.text.now c.args.ats.now c.args.lens.now c.args.counts.maps (take (c.args.end - (c.args.at + 18)) (drop (c.args.at + 18) c.args.text.now)) (given) c.find_map-found.result s (part_bytes (piece)) e.maps h c.find_map-found.ensures.finds)) in
     let r = reading a.text.now a.at a.end c.requires.framed (inside) in
     rw c.slot_at.ensures (
-      goes s (frame) (bytes) (says) ((at_none (late c.before.before.before.before.before.before.before.before.before.before.before.before.before.before.before.before.before.before.before.before.before s e) (bad_name (given)) (over c.before.before.before.before.before.before.before.before.before.before.before.before.before.before.before.before.before.before.before.before.before s e) (early c.before.before.before.before.before.before.before.before.before.before.before.before.before.before.before.before.before.before.before.before.before s e (opened)) (good) (over-is c.before.before.before.before.before.before.before.before.before.before.before.before.before.before.before.before.before.before.before.before.before s e false (kept)))) ∙ found s (offset) (given) c.in-At.map l
+      goes s (frame) (bytes) (says) ((at_none (late s) (bad_name (given)) (over s given) (early s c.args.counts e (opened)) (good) (over-is s c.args.counts given e false (kept)))) ∙ found s (offset) (given) c.in-At.map l
           ∙ relocated-at s c.in-At.map (ap value (sym r.offset)) (sym r.name),
       refl,
       record {
-        (let a = =.args in let f = =.requires.0 in omega (arith, =.requires.1.1.1.0, f.first, line_length a.text.now a.at a.end (omega (arith, f.first)) f.last f.hex)) omega (arith, inside, c.requires.framed.last);
+        inside = omega (arith, inside, c.requires.framed.last);
         hex = r.hex;
         last = ap (λ (x : List ℕ). last_map x s.job.maps) r.name ∙ l;
-        (let p = ((((=.before.before.before.before.before)).before.before.before.before.before.before.before.before.before.before)) in omega (arith, ltb-false 64 (length ((drop 9 ((line_bytes p.args.text.now p.args.at p.args.end))))) (or_false_both ((leb 256 p.args.counts.relocs)) (long ((drop 9 ((line_bytes p.args.text.now p.args.at p.args.end))))) ((told_free 6 _ (sym (ap limit_told =.enum-told3.given.1) ∙ (let p = (((=.before.before.before.before.before)).before.before.before.before.before.before.before.before.before.before) in =.before.before.name_limit.ensures ∙ ap (λ (x : List ℕ). told_if 6 ((leb 256 p.args.counts.relocs) || long x)) (part_bytes ((let a = p.args in rest a.text.now a.at a.end p.requires.0 9 (a.at + 18) (omega arith) ((let a = p.args in let f = p.requires.0 in omega (arith, p.requires.1.1.1.0, f.first, line_length a.text.now a.at a.end (omega (arith, f.first)) f.last f.hex))))))))))).1, ((let a = p.args in rest a.text.now a.at a.end p.requires.0 9 (a.at + 18) (omega arith) ((let a = p.args in let f = p.requires.0 in omega (arith, p.requires.1.1.1.0, f.first, line_length a.text.now a.at a.end (omega (arith, f.first)) f.last f.hex))))).count, ((let a = p.args in rest a.text.now a.at a.end p.requires.0 9 (a.at + 18) (omega arith) ((let a = p.args in let f = p.requires.0 in omega (arith, p.requires.1.1.1.0, f.first, line_length a.text.now a.at a.end (omega (arith, f.first)) f.last f.hex))))).even)) omega (arith, short);
+        short = omega (arith, short);
       },
       omega (arith, e.relocs),
       omega (arith, e.programs, opened),
@@ -204,5 +204,5 @@ returns c =
     same-frame e c.before.before.before.before = rw (e, c.before.before.before.before)
 
     relocated-at : {x y : ℕ} {a b : List ℕ} (s : Stage) (c.before.before.before.before.before.before : ℕ) → x ≡ y → a ≡ b
-        → went (relocated s (record { (value (take 8 (drop 1 ((line_bytes =.args.text.now =.args.at =.args.end))))) x; map = a; number = c.before.before.before.before.before.before })) ≡ went (relocated s (record { (value (take 8 (drop 1 ((line_bytes =.args.text.now =.args.at =.args.end))))) y; map = b; number = c.before.before.before.before.before.before }))
+        → went (relocated s (record { offset = x; map = a; number = c.before.before.before.before.before.before })) ≡ went (relocated s (record { offset = y; map = b; number = c.before.before.before.before.before.before }))
     relocated-at s c.before.before.before.before.before.before e c.before.before.before.before = rw (e, c.before.before.before.before)
