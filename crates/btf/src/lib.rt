@@ -94,7 +94,7 @@ fn put_type(out: &mut [u8], at: usize, name: usize, kind: u32, vlen: u32, rest: 
 }
 
 // The ints, which are the first types: `int`, which arrays are made of, and those of keys and values. Ids begin at 1.
-#[derive(Drop)]
+#[derive(Clone, Copy)]
 pub struct BtfIntIds {}
 
 impl BtfIntIds {
@@ -127,7 +127,7 @@ impl BtfIntIds {
 
 // Where the next type goes in lent memory, how long the strings are so far, and the id of the next type. The strings themselves are written
 // separately: a type names a string by its place, which follows from the lengths of those before it.
-#[derive(Drop)]
+#[derive(Clone, Copy)]
 pub struct BtfBuilder {
     pub at: usize,
     pub strings: usize,

@@ -15,7 +15,7 @@ use elf::{Rel, Symbol};
 use object::{BpfObject, Entry, License, Slot};
 
 // The licence of a job that names none, `GPL`.
-#[derive(Drop)]
+#[derive(Clone, Copy)]
 pub struct Gpl {}
 
 impl Gpl {

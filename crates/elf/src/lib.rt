@@ -20,7 +20,7 @@ pub fn align_to(value: u64, align: u64) -> u64
 }
 
 // Where a string is in its table, and how long the table then is.
-#[derive(Drop)]
+#[derive(Clone, Copy)]
 pub struct Added {
     pub place: usize,
     pub len: usize,
@@ -48,7 +48,7 @@ pub fn put_string(out: &mut [u8], s: &[u8])
 }
 
 // A section, by the numbers of its header. `name` is the place of its name in `.shstrtab`, `at` its own place in the file.
-#[derive(Drop)]
+#[derive(Clone, Copy)]
 pub struct Section {
     pub name: u32,
     pub sh_type: u32,
@@ -166,7 +166,7 @@ impl Section {
 }
 
 // A symbol, by the numbers of its entry.
-#[derive(Drop)]
+#[derive(Clone, Copy)]
 pub struct Symbol {
     pub name: u32,
     pub info: u8,
@@ -246,7 +246,7 @@ impl Symbol {
 }
 
 // The numbers of a relocation's entry.
-#[derive(Drop)]
+#[derive(Clone, Copy)]
 pub struct Rel {}
 
 impl Rel {
@@ -266,7 +266,7 @@ pub fn put_rel(out: &mut [u8], offset: u64, symbol: u32)
 }
 
 // The numbers of the file header.
-#[derive(Drop)]
+#[derive(Clone, Copy)]
 pub struct FileHeader {}
 
 impl FileHeader {

@@ -10,14 +10,14 @@ ghost use Rattle.flaws.specs.Flaws.{flaw_told, limit_told};
 use ast::Name;
 
 // Whether the texts of a frame are good.
-#[derive(Drop)]
+#[derive(Clone, Copy)]
 pub enum Flaw {
     Good,
     NotText,
 }
 
 // Whether a frame keeps to the limits.
-#[derive(Drop)]
+#[derive(Clone, Copy)]
 pub enum Limit {
     Kept,
     Over,

@@ -12,7 +12,7 @@ ghost use Rattle.frames.specs.Shown.{frame_told, PlacedRead};
 use ast::{CountAttr, MapDecl, MapType, Type, TypeAttr};
 
 // What a line says. Places are counted in bytes from the line's start.
-#[derive(Drop)]
+#[derive(Clone, Copy)]
 pub enum Frame {
     Licence,
     // The name is from `name` on.
@@ -25,7 +25,7 @@ pub enum Frame {
 }
 
 // The frame of a line, or that its bytes give none.
-#[derive(Drop)]
+#[derive(Clone, Copy)]
 pub enum FrameRead {
     Is(Frame),
     Bad,
@@ -70,7 +70,7 @@ fn read_instruction(s: &[u8]) -> FrameRead
     FrameRead::Bad
 }
 
-#[derive(Drop)]
+#[derive(Clone, Copy)]
 enum KindRead {
     Is(MapType),
     Unlisted,
@@ -90,7 +90,7 @@ fn map_type_of(n: u8) -> KindRead
     }
 }
 
-#[derive(Drop)]
+#[derive(Clone, Copy)]
 enum NumberRead {
     Is(Type),
     Unlisted,
@@ -109,14 +109,14 @@ fn member_type_of(n: u8) -> NumberRead
     }
 }
 
-#[derive(Drop)]
+#[derive(Clone, Copy)]
 enum TypeAnswer {
     Is(TypeAttr),
     Bad,
 }
 
 // What was read of a type, and the byte at which the frame goes on. If the type is bad, that is the byte where it would begin.
-#[derive(Drop)]
+#[derive(Clone, Copy)]
 struct TypeRead {
     answer: TypeAnswer,
     next: usize,
@@ -155,14 +155,14 @@ fn read_type(s: &[u8], at: usize, there: bool) -> TypeRead
     }
 }
 
-#[derive(Drop)]
+#[derive(Clone, Copy)]
 enum CountAnswer {
     Is(CountAttr),
     Bad,
 }
 
 // The same for a number.
-#[derive(Drop)]
+#[derive(Clone, Copy)]
 struct CountRead {
     answer: CountAnswer,
     next: usize,

@@ -5,7 +5,7 @@
 ghost use Rattle.std.specs.Prelude.{◌≡◌};
 ghost use Rattle.insn.specs.Insn.{insn_of, insn_bytes};
 
-#[derive(Drop)]
+#[derive(Clone, Copy)]
 pub struct Insn {
     pub code: u8,
     pub dst: u8,

@@ -16,14 +16,14 @@ use object::{Added, Adding, BpfObject, Program};
 use refusals::Refusal;
 
 // Whether a line is one of the format: hexadecimal that an LF ends.
-#[derive(Drop)]
+#[derive(Clone, Copy)]
 enum LineAnswer {
     Framed,
     NotLine,
 }
 
 // What was read of a line, and where it ends. For a line that is not of the format, `end` is where it begins.
-#[derive(Drop)]
+#[derive(Clone, Copy)]
 struct LineRead {
     answer: LineAnswer,
     end: usize,
@@ -56,7 +56,7 @@ fn read_line(text: &[u8], at: usize) -> LineRead
 }
 
 // What the table does with the line that starts at `at`, and where the line ends.
-#[derive(Drop)]
+#[derive(Clone, Copy)]
 struct Said {
     verdict: Verdict,
     end: usize,
@@ -202,7 +202,7 @@ fn with_program(added: Added, opened: usize, program: Program) -> Built
 }
 
 // Whether a job is accepted.
-#[derive(Drop)]
+#[derive(Clone, Copy)]
 pub enum Parsing {
     Accepted,
     Refused(Refusal),

@@ -19,7 +19,7 @@ use object::{BpfObject, Entry, Slot};
 use refusals::Refusal;
 
 // How much there is before a frame: lines, maps, programs with the open one, relocations.
-#[derive(Drop)]
+#[derive(Clone, Copy)]
 pub struct Counts {
     pub lines: usize,
     pub maps: usize,
@@ -28,7 +28,7 @@ pub struct Counts {
 }
 
 // What a frame adds to the tables.
-#[derive(Drop)]
+#[derive(Clone, Copy)]
 pub enum Declaration {
     License(Name),
     Map { decl: MapDecl, name: Name },
@@ -36,7 +36,7 @@ pub enum Declaration {
 }
 
 // What a frame asks for.
-#[derive(Drop)]
+#[derive(Clone, Copy)]
 pub enum Order {
     Declares(Declaration),
     Code(usize),
@@ -44,7 +44,7 @@ pub enum Order {
 }
 
 // What the table does with a frame.
-#[derive(Drop)]
+#[derive(Clone, Copy)]
 pub enum Verdict {
     Takes(Order),
     Refused(Refusal),

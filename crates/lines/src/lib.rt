@@ -10,7 +10,7 @@ ghost use Rattle.lines.specs.Ends.{holds_end, line_end, end_told};
 ghost use Rattle.lines.specs.Hex.{there, is_hex, is_frame, bytes_in, bytes_of};
 
 // Where a line ends.
-#[derive(Drop)]
+#[derive(Clone, Copy)]
 pub enum LineEnd {
     Ended(usize),
     Cut,

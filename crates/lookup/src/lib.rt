@@ -5,7 +5,7 @@ ghost use Rattle.std.specs.Prelude.{◌≡◌, true, ◌*◌, ◌+◌, ◌-◌, 
 ghost use Rattle.lines.specs.Hex.{is_hex, bytes_in};
 ghost use Rattle.lookup.specs.Names.{Names, Finds, FoundIn};
 
-#[derive(Drop)]
+#[derive(Clone, Copy)]
 pub enum Found {
     At(usize),
     Nothing,

@@ -21,14 +21,14 @@ use refusals::Refusal;
 use spans::BtfSize;
 
 // What `make` is to write: the sizes of the sections, and how many bytes of `.BTF` its types take.
-#[derive(Drop)]
+#[derive(Clone, Copy)]
 struct Weighed {
     sizes: Sizes,
     types: usize,
 }
 
 // What the maps take: the types and the strings of `.BTF`, and `.maps`.
-#[derive(Drop)]
+#[derive(Clone, Copy)]
 struct MapsWeighed {
     types: usize,
     strings: usize,
@@ -119,7 +119,7 @@ fn encode<'a>(
 }
 
 // What `make` answers: the length of the object in the output, or the one refusal.
-#[derive(Drop)]
+#[derive(Clone, Copy)]
 pub enum Making {
     Made(usize),
     Refused(Refusal),

@@ -1,5 +1,7 @@
 // Measuring: puts the headers of the object's sections into a lent table, counts them, and finds how long the object is. It does not need
 // the output. The sections are in the order of the writers.
+#![tactic(auto)]
+
 ghost use Rattle.std.specs.Prelude.{◌≡◌, [], ◌∷◌, ℕ, suc, ◌+◌, ◌*◌, ◌≤◌, ◌<◌, ◌^◌, length, take};
 ghost use Rattle.octets.specs.Over.{over};
 ghost use Rattle.elf.specs.Entries.{null_section};
@@ -13,7 +15,7 @@ use elf::{FileHeader, Rel, Section, Symbol};
 use object::{BpfObject, Program};
 
 // How many bytes the sections take whose lengths are not in the tables.
-#[derive(Drop)]
+#[derive(Clone, Copy)]
 pub struct Sizes {
     pub license: usize,
     pub maps: usize,
@@ -22,7 +24,7 @@ pub struct Sizes {
 }
 
 // How many headers there are, header 0 counted; where the header table is; how long the sections' names are; and the object's length.
-#[derive(Drop)]
+#[derive(Clone, Copy)]
 pub struct Measured {
     pub count: usize,
     pub at: u64,
@@ -36,7 +38,7 @@ impl Measured {
 }
 
 // The sections so far: their number, header 0 counted, where they end, and how long their names are.
-#[derive(Drop)]
+#[derive(Clone, Copy)]
 struct Measuring {
     count: usize,
     end: u64,

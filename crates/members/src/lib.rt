@@ -75,7 +75,7 @@ fn add_attributes(b: BtfBuilder, out: &mut [u8], map: MapDecl) -> BtfBuilder
 }
 
 // Where a struct's next member goes: the builder, the member's position, and the id of the next attribute's first type.
-#[derive(Drop)]
+#[derive(Clone, Copy)]
 struct Members {
     builder: BtfBuilder,
     position: u32,

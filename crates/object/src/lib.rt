@@ -78,7 +78,7 @@ pub struct BpfObject {
     pub slots: [Slot; BpfObject::RELOCATIONS],
 }
 
-#[derive(Drop)]
+#[derive(Clone, Copy)]
 pub enum Adding {
     Done,
     Full,

@@ -5,7 +5,7 @@ ghost use Rattle.std.specs.Prelude.{◌≡◌, ◌-◌, length};
 ghost use Rattle.refusals.specs.Refusal.{number_of, line_of, needed_of};
 
 // Each case but the first and the last holds the number of its line; the last holds the length needed.
-#[derive(Drop)]
+#[derive(Clone, Copy)]
 pub enum Refusal {
     TooLong,
     BadLine(usize),

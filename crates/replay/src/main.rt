@@ -7,7 +7,7 @@ use maker::Making;
 use refusals::Refusal;
 
 // What one record showed.
-#[derive(Drop)]
+#[derive(Clone, Copy)]
 enum Shown {
     End,
     Broken,

@@ -50,7 +50,7 @@ pub fn count_ids(attr: CountAttr) -> u32
 }
 
 // How many bytes the types and the strings of `.BTF` take.
-#[derive(Drop)]
+#[derive(Clone, Copy)]
 pub struct BtfSize {
     pub types: usize,
     pub strings: usize,

@@ -1,5 +1,7 @@
 // The `.BTF` section of a job: the types of its maps and their strings, as `build_btf` of the original puts them. Types and strings are
 // written in two passes over the maps, since a type names a string by its place alone.
+#![tactic(auto)]
+
 ghost use Rattle.std.specs.Prelude.{◌≡◌, ◌+◌, ◌*◌, ◌^◌, ◌≤◌, ◌<◌, length, take};
 ghost use Rattle.octets.specs.Over.{over};
 ghost use Rattle.btf.specs.Maps.{int_types, btf_types};

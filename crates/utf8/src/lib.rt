@@ -7,7 +7,7 @@ ghost use Rattle.utf8.specs.Utf8.{allowed, leads, continues, next, is_text, all_
 ghost use Rattle.utf8.specs.Wait.{idle_wait, wait_of, Fine, step_told, next_told, wait_after, stepped_point, stepped_more, stepped_bad};
 
 // The state between two bytes of a text: a code point of which `left` bytes are still to come.
-#[derive(Drop)]
+#[derive(Clone, Copy)]
 pub struct Wait {
     pub left: u32,
     pub bits: u32,
@@ -15,21 +15,21 @@ pub struct Wait {
 }
 
 // What a byte that may come there gives: the code point that it ends, or that more bytes of one are to come.
-#[derive(Drop)]
+#[derive(Clone, Copy)]
 pub enum Next {
     Point(u32),
     More,
 }
 
 // Whether a byte may come there.
-#[derive(Drop)]
+#[derive(Clone, Copy)]
 pub enum Decoded {
     Takes(Next),
     Bad,
 }
 
 // What a byte does there, and what is awaited after it. A byte that may not come there changes nothing.
-#[derive(Drop)]
+#[derive(Clone, Copy)]
 pub struct Stepped {
     pub answer: Decoded,
     pub wait: Wait,

@@ -56,7 +56,7 @@ pub fn written_char(c: u32, n: usize) -> u8
 }
 
 // What an empty name is written as, `_solnix_symbol`.
-#[derive(Drop)]
+#[derive(Clone, Copy)]
 pub struct Unnamed {}
 
 impl Unnamed {

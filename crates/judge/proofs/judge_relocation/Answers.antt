@@ -40,6 +40,13 @@ over-is s k t e b q = ap (λ (n : ℕ). leb 256 n || long t) e.relocs ∙ q
 early : (s : Stage) (k : Counts) → Agrees s k → (k.programs ≡ 0 → ⊥) → late s ≡ false
 early s k e h = ne_eqb (length s.job.programs) 0 (λ z. h (omega (arith, e.programs)))
 
+same_frame : {x y : ℕ} {a b : List ℕ} → x ≡ y → a ≡ b → some (relocation x a) ≡ some (relocation y b)
+same_frame e f = rw (e, f)
+
+relocated_at : {x y : ℕ} {a b : List ℕ} (s : Stage) (k : ℕ) → x ≡ y → a ≡ b
+    → went (relocated s (record { offset = x; map = a; number = k })) ≡ went (relocated s (record { offset = y; map = b; number = k }))
+relocated_at s k e f = rw (e, f)
+
 pub slice_bounds-name_flaw-count : goal.slice_bounds-name_flaw-count
 slice_bounds-name_flaw-count c =
     let inside : c.args.at + 18 ≤ c.args.end = (let a = c.args in let f = c.requires.framed in omega (arith, c.requires.in_bounds, f.first, line_length a.text.now a.at a.end (omega (arith, f.first)) f.last f.hex)) in
@@ -102,7 +109,7 @@ returns-in_default-limit c =
     let limit = c.name_limit-limit.ensures ∙ ap (λ (x : List ℕ). told_if 6 (full || long x)) (part_bytes (piece)) in
     λ s e h. (
       stops s (frame) (bytes) (says) 6
-          (at_6 (late s) (bad_name (given)) (over s given) (early s c.args.counts e c.if-counts-eq0.left) (good)
+          (at_6 (late s) (bad_name (given)) (over s given) (early s c.args.counts e c.if-counts-eq0.false) (good)
           (over-is s c.args.counts given e true (told_holds 6 6 (full || long (given)) (sym (ap limit_told c.in_default-limit.is) ∙ limit)))),
       omega (arith, e.lines),
     )
@@ -130,7 +137,7 @@ returns-in_default-found c =
     let bytes = line_bytes c.args.text.now c.args.at c.args.end in
     let frame = relocation_frame_of (bytes) in
     let says = c.requires.says in
-    let opened : ⊥ = c.if-counts-eq0.false in
+    let opened : c.args.counts.programs ≡ 0 → ⊥ = c.if-counts-eq0.false in
     let given = drop 9 (bytes) in
     let inside : c.args.at + 18 ≤ c.args.end = (let a = c.args in let f = c.requires.framed in omega (arith, c.requires.in_bounds, f.first, line_length a.text.now a.at a.end (omega (arith, f.first)) f.last f.hex)) in
     let piece = (let a = c.args in rest a.text.now a.at a.end c.requires.framed 9 (a.at + 18) (omega arith) (inside)) in
@@ -174,7 +181,7 @@ returns c =
     let kept = told_free 6 _ (sym (ap limit_told c.in-Kept.is) ∙ limit) in
     let frame = relocation_frame_of (bytes) in
     let says = c.requires.says in
-    let opened : ⊥ = c.if-counts-eq0.false in
+    let opened : c.args.counts.programs ≡ 0 → ⊥ = c.if-counts-eq0.false in
     let flaw = c.name_flaw-flaw.ensures ∙ ap (λ (x : List ℕ). told_if 5 (bad_name x)) (part_bytes (piece)) in
     let good = told_free 5 _ (sym (ap flaw_told c.in-Good.is) ∙ flaw) in
     let offset = value (take 8 (drop 1 (bytes))) in
@@ -186,7 +193,7 @@ returns c =
     let r = reading a.text.now a.at a.end c.requires.framed (inside) in
     rw c.slot_at.ensures (
       goes s (frame) (bytes) (says) ((at_none (late s) (bad_name (given)) (over s given) (early s c.args.counts e (opened)) (good) (over-is s c.args.counts given e false (kept)))) ∙ found s (offset) (given) c.in-At.map l
-          ∙ relocated-at s c.in-At.map (ap value (sym r.offset)) (sym r.name),
+          ∙ relocated_at s c.in-At.map (ap value (sym r.offset)) (sym r.name),
       refl,
       record {
         inside = omega (arith, inside, c.requires.framed.last);
@@ -197,12 +204,5 @@ returns c =
       omega (arith, e.relocs),
       omega (arith, e.programs, opened),
       ap frame_code (says),
-      says ∙ same-frame (ap value (sym r.offset)) (sym r.name),
+      says ∙ same_frame (ap value (sym r.offset)) (sym r.name),
     )
-  where
-    same-frame : {x y : ℕ} {a b : List ℕ} → x ≡ y → a ≡ b → some (relocation x a) ≡ some (relocation y b)
-    same-frame e c.before.before.before.before = rw (e, c.before.before.before.before)
-
-    relocated-at : {x y : ℕ} {a b : List ℕ} (s : Stage) (c.before.before.before.before.before.before : ℕ) → x ≡ y → a ≡ b
-        → went (relocated s (record { offset = x; map = a; number = c.before.before.before.before.before.before })) ≡ went (relocated s (record { offset = y; map = b; number = c.before.before.before.before.before.before }))
-    relocated-at s c.before.before.before.before.before.before e c.before.before.before.before = rw (e, c.before.before.before.before)
