@@ -1,5 +1,7 @@
 // Jobs: a walk over the lines of a text, which fills the tables or stops at the first refusal. Frames 04, 05 and 06 come by the thousand,
 // so no table is copied for them: they change a slot in place, or the open program alone.
+#![tactic(auto)]
+
 ghost use Rattle.std.specs.Prelude.{◌≡◌, ◌+◌, ◌≤◌, ◌<◌, length};
 ghost use Rattle.object.specs.Tables.{Sound};
 ghost use Rattle.refusals.specs.Checked.{Stage, take_lines, empty, checked};

@@ -65,7 +65,7 @@ impl Program {
 
 // The names of the maps are in two arrays of numbers, apart from the declarations, so that a lookup borrows them and copies nothing. A
 // count is before its table, and no table is next to the licence: then the compiler copies each table by itself.
-#[derive(Drop)]
+#[derive(Clone, Copy)]
 pub struct BpfObject {
     pub license: License,
     pub map_count: usize,
@@ -85,7 +85,7 @@ pub enum Adding {
 }
 
 // The object as it is after a step, with what the step did.
-#[derive(Drop)]
+#[derive(Clone, Copy)]
 pub struct Added {
     pub answer: Adding,
     pub object: BpfObject,

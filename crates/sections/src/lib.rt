@@ -1,4 +1,6 @@
 // The sections of an object. Each is written into its own part of the output, and the bytes between two are cleared.
+#![tactic(auto)]
+
 ghost use Rattle.std.specs.Prelude.{◌≡◌, [], ◌∷◌, ◌++◌, ◌+◌, ◌*◌, ◌≤◌, length, take, drop};
 ghost use Rattle.octets.specs.Octets.{zeros};
 ghost use Rattle.octets.specs.Over.{over};

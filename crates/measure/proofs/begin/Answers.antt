@@ -1,0 +1,17 @@
+-- `measure::begin` meets its contract. Assumes nothing.
+use mathlib.Core.Path.{◌≡◌, refl, ◌∙◌, ap}
+use native.Mathlib.Omega.{arith}
+use borrow.Author.Rules.{rules}
+use borrow.Rule.Slice.PartMut.{mid_len}
+use Rattle.elf.specs.Elf.{header_bytes}
+use Rattle.elf.specs.Entries.{header_of, null_section}
+use Rattle.elf.specs.declared.Section.{Section}
+use Rattle.measure.proofs.Table.{row_over}
+use Rattle.measure.proofs.begin.Goals as goal
+
+pub returns : goal.returns
+returns c =
+    let a = c.args in record {
+      table_after = row_over a.table.now _ 0 null_section (c.put.ensures ∙ ap (λ (s : Section). header_bytes (header_of s)) c.null.ensures);
+      value = refl;
+    }
