@@ -1,5 +1,7 @@
 // `make`: a whole object or one refusal. The object is measured first. Then each section writer is lent its own part of the output, and the
 // bytes between two sections are cleared.
+#![tactic(auto)]
+
 ghost use Rattle.std.specs.Prelude.{◌≡◌, ◌+◌, ◌≤◌, length};
 ghost use Rattle.object.specs.Read.{declared_maps, job_in};
 ghost use Rattle.object.specs.Kept.{Kept};
