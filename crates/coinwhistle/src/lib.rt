@@ -1,4 +1,6 @@
 // `make` for programs in C or Rust that link the static library: the answer goes out as numbers.
+#![tactic(auto)]
+
 ghost use Rattle.std.specs.Prelude.{◌≡◌, length};
 ghost use Rattle.job.specs.Answer.{answer, output_after};
 ghost use Rattle.maker.specs.Made.{outcome, outcome_of};
