@@ -1,7 +1,13 @@
 // The program `make`: a job on standard input, its object on standard output, or the line `refused N line L`. It is thin: all that it
-// decides is decided by `maker::make`. A job of over 65,535 bytes fills the room and is refused by its length.
-use libc::{STDIN_FILENO, STDOUT_FILENO};
+// decides is decided by `maker::make`. A job of over 65,535 bytes fills the room and is refused by its length. A read or a write that
+// fails ends it with that error.
+#![tactic(auto)]
+
+ghost use Rattle.std.specs.Prelude.{◌≤◌, length, IfOk};
+
 use maker::Making;
+use std::io;
+use std::io::{Read, Write};
 
 // The output that is lent, as the scope document has it.
 const OUTPUT: usize = 65536;
@@ -9,40 +15,55 @@ const OUTPUT: usize = 65536;
 // The room for the job: one byte more than a job may have, so that a longer one is seen to be longer.
 const ROOM: usize = 65536;
 
+// Reads until `buf` is full or the input ends, and answers how many bytes it put at the start of `buf`.
+fn read_full<R: Read>(input: &mut R, buf: &mut [u8]) -> io::Result<usize>
+    ensures { IfOk result (λ n. n ≤ length buf.new) }
+{
+    let mut done = 0;
+    while done < buf.len() {
+        let n = input.read(&mut buf[done..])?;
+        if n == 0 {
+            break;
+        }
+        done += n;
+    }
+    Ok(done)
+}
+
 // The one line that a refused job gets.
-fn say_refused(made: Making) {
+fn say_refused<P: Print>(rt: &P, made: Making) -> io::Result<()> {
     let Making::Refused(refusal) = made else {
-        return;
+        return Ok(());
     };
-    io::write_all(STDOUT_FILENO, b"refused ");
-    io::print_decimal(STDOUT_FILENO, refusal.number() as u64);
-    io::write_all(STDOUT_FILENO, b" line ");
-    io::print_decimal(STDOUT_FILENO, refusal.line() as u64);
-    io::write_all(STDOUT_FILENO, b"\n");
+    let number = refusal.number();
+    let line = refusal.line();
+    println!(rt; "refused {number} line {line}")
 }
 
 // The object at the front of the output.
-fn put_object(out: &[u8], len: usize) {
+fn put_object<P: Print>(rt: &P, out: &[u8], len: usize) -> io::Result<()> {
     if len <= out.len() {
-        io::write_all(STDOUT_FILENO, &out[0..len]);
+        io::writer(rt).write_all(&out[0..len])?;
     }
+    Ok(())
 }
 
 // The job, answered.
-fn answer(job: &[u8]) {
+fn answer<P: Print>(rt: &P, job: &[u8]) -> io::Result<()> {
     let mut out = [0u8; OUTPUT];
     let made = maker::make(job, &mut out);
     let Making::Made(len) = made else {
-        say_refused(made);
-        return;
+        return say_refused(rt, made);
     };
-    put_object(&out, len);
+    put_object(rt, &out, len)
 }
 
-fn main() {
+fn main(rt: HostRuntime) -> io::Result<()> {
     let mut job = [0u8; ROOM];
-    let n = io::read_full(STDIN_FILENO, &mut job);
+    let mut input = rt.stdin();
+    let n = read_full(&mut input, &mut job)?;
     if n <= ROOM {
-        answer(&job[0..n]);
+        answer(&rt, &job[0..n])?;
     }
+    Ok(())
 }

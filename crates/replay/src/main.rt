@@ -2,9 +2,15 @@
 // accepted job is tried with room for 65,536 bytes, with just the room that its object needs, with one byte less and with none. The last
 // two are refused 8 with the length needed. After the object, and after a refusal, the output is as it was. A record is four numbers of
 // four bytes (length of the job, number of the refusal or 0, its line, length of the object), then the job, then the object.
-use libc::STDOUT_FILENO;
+#![tactic(auto)]
+
+ghost use Rattle.std.specs.Prelude.{◌≤◌, length, IfOk};
+
 use maker::Making;
 use refusals::Refusal;
+use std::fs::File;
+use std::io;
+use std::io::Read;
 
 // What one record showed.
 #[derive(Clone, Copy)]
@@ -137,44 +143,63 @@ fn answered_record(record: &[u8], middle: usize, number: u64, line: u64) -> Show
     answered(&record[0..middle], &record[middle..all], number, line)
 }
 
+// Reads until `buf` is full or the input ends, and answers how many bytes it put at the start of `buf`.
+fn read_full<R: Read>(input: &mut R, buf: &mut [u8]) -> io::Result<usize>
+    ensures { IfOk result (λ n. n ≤ length buf.new) }
+{
+    let mut done = 0;
+    while done < buf.len() {
+        let n = input.read(&mut buf[done..])?;
+        if n == 0 {
+            break;
+        }
+        done += n;
+    }
+    Ok(done)
+}
+
 // The job of `n` bytes and the object of `m` bytes that follow a record's numbers, by way of `space`.
-fn replay_job(fd: i32, space: &mut [u8], n: usize, m: usize, number: u64, line: u64) -> Shown {
+fn replay_job<R: Read>(
+    input: &mut R,
+    space: &mut [u8],
+    n: usize,
+    m: usize,
+    number: u64,
+    line: u64,
+) -> io::Result<Shown> {
     if 131072 < n {
-        return Shown::Broken;
+        return Ok(Shown::Broken);
     }
     if 65536 < m {
-        return Shown::Broken;
+        return Ok(Shown::Broken);
     }
     let all = n + m;
     if space.len() < all {
-        return Shown::Broken;
+        return Ok(Shown::Broken);
     }
-    let read = io::read_full(fd, &mut space[0..all]);
+    let read = read_full(input, &mut space[0..all])?;
     if read < all {
-        return Shown::Broken;
+        return Ok(Shown::Broken);
     }
-    if space.len() < all {
-        return Shown::Broken;
-    }
-    answered_record(&space[0..all], n, number, line)
+    Ok(answered_record(&space[0..all], n, number, line))
 }
 
 // The next record.
-fn replay_one(fd: i32) -> Shown {
+fn replay_one<R: Read>(input: &mut R) -> io::Result<Shown> {
     let mut head = [0u8; 16];
-    let got = io::read_full(fd, &mut head);
+    let got = read_full(input, &mut head)?;
     if got == 0 {
-        return Shown::End;
+        return Ok(Shown::End);
     }
     if got < 16 {
-        return Shown::Broken;
+        return Ok(Shown::Broken);
     }
     let n = octets::get_at(&head, 0, 4) as usize;
     let number = octets::get_at(&head, 4, 4);
     let line = octets::get_at(&head, 8, 4);
     let m = octets::get_at(&head, 12, 4) as usize;
     let mut space = [0u8; 196608];
-    replay_job(fd, &mut space, n, m, number, line)
+    replay_job(input, &mut space, n, m, number, line)
 }
 
 // A count with one more, up to a number that no list reaches.
@@ -182,38 +207,21 @@ fn more(n: u64) -> u64 {
     if n < 1000000 { n + 1 } else { n }
 }
 
-fn print(what: &[u8], n: u64) {
-    io::print_decimal(STDOUT_FILENO, n);
-    io::write_all(STDOUT_FILENO, what);
-}
-
 // Each accepted job was refused for lack of room too, so their count is in two lines.
-fn print_counts(accepted: u64, refused: u64, differ: u64) {
-    print(
-        b" objects as stored, in 65536 bytes and in just their length\n",
-        accepted,
-    );
-    print(
-        b" refused 8 with the length needed, by one byte and by all\n",
-        accepted,
-    );
-    print(b" refused as stored\n", refused);
-    print(b" that differ\n", differ);
+fn print_counts<P: Print>(rt: &P, accepted: u64, refused: u64, differ: u64) -> io::Result<()> {
+    println!(rt; "{accepted} objects as stored, in 65536 bytes and in just their length")?;
+    println!(rt; "{accepted} refused 8 with the length needed, by one byte and by all")?;
+    println!(rt; "{refused} refused as stored")?;
+    println!(rt; "{differ} that differ")
 }
 
-fn main() {
-    let fd = os::open_read(b"answers.list");
-    if fd < 0 {
-        os::fail(b"answers.list");
-        return;
-    }
+fn main(rt: HostRuntime) -> io::Result<()> {
+    let mut list = File::open(&rt, "answers.list")?;
     let mut accepted: u64 = 0;
     let mut refused: u64 = 0;
     let mut differ: u64 = 0;
-    let mut turns: u64 = 0;
-    while turns < 1000000 {
-        turns += 1;
-        match replay_one(fd) {
+    for _ in 0..1000000 {
+        match replay_one(&mut list)? {
             Shown::Accepted => {
                 accepted = more(accepted);
             }
@@ -224,14 +232,13 @@ fn main() {
                 differ = more(differ);
             }
             Shown::Broken => {
-                io::write_all(STDOUT_FILENO, b"broken\n");
-                turns = 1000000;
+                println!(rt; "broken")?;
+                break;
             }
             Shown::End => {
-                turns = 1000000;
+                break;
             }
         }
     }
-    libc::close(fd);
-    print_counts(accepted, refused, differ);
+    print_counts(&rt, accepted, refused, differ)
 }
