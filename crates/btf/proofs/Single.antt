@@ -1,5 +1,5 @@
 -- Single outcomes: two outcomes that meet the promise of a public function of this crate are equal.
-use mathlib.Core.Path.{◌≡◌, sym, ◌∙◌}
+use mathlib.Core.Path.{sym, ◌∙◌}
 use Rattle.octets.proofs.Single.{OneResult, OneExit}
 use Rattle.btf.proofs.btf_info.Kinds as btf_info_kinds
 use Rattle.btf.proofs.btf_info.Reads as btf_info

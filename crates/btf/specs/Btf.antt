@@ -1,5 +1,5 @@
 -- BTF as the Linux kernel's document gives it: a header, a row of types, and the string table that holds their names.
-use Rattle.std.specs.Prelude.{List, [], ◌∷◌, ◌++◌, map, ℕ, zero, suc, ◌+◌, ◌*◌, ◌^◌, length}
+use Rattle.std.specs.Prelude.{List, [], ◌∷◌, ◌++◌, map, ℕ, suc, ◌+◌, ◌*◌, ◌^◌, length}
 use Rattle.octets.specs.Octets.{le, cat}
 use Rattle.elf.specs.Strings.{add_strings, empty_table}
 

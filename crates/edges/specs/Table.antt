@@ -1,6 +1,6 @@
 -- The edge jobs that document 01 marks P, with every figure that it gives for them. proofs/Right.antt proves that each job is accepted and
 -- its object has these figures.
-use Rattle.std.specs.Prelude.{Bool, true, false, ◌&&◌, List, [], ◌∷◌, ℕ}
+use Rattle.std.specs.Prelude.{Bool, true, false, ◌&&◌, List, [], ◌∷◌}
 use Prim.Native.String.{String}
 use Rattle.octets.specs.Octets.{ascii}
 use Rattle.job.specs.Answer.{answer, made, refused}

@@ -1,5 +1,5 @@
 -- Single outcomes: two outcomes that meet the promise of a public function of this crate are equal.
-use mathlib.Core.Path.{◌≡◌, sym, ◌∙◌}
+use mathlib.Core.Path.{sym, ◌∙◌}
 use Rattle.octets.proofs.Single.{OneResult, OneExit}
 use Rattle.elf.proofs.align_to.Kinds as align_to_kinds
 use Rattle.elf.proofs.align_to.Reads as align_to

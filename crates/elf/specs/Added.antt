@@ -1,5 +1,5 @@
 -- What `align_to` asks of an alignment, and `add_string` by lengths alone.
-use Rattle.std.specs.Prelude.{◌≡◌, ℕ, ◌+◌}
+use Rattle.std.specs.Prelude.{ℕ, ◌+◌}
 use Rattle.elf.specs.declared.Added.{Added}
 
 -- the alignments that sections have

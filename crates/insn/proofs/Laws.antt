@@ -1,9 +1,9 @@
 -- The register byte: masks and a shift put the two nibbles together.
-use mathlib.Core.Path.{◌≡◌, ◌∙◌, ap}
-use Prim.Native.Nat.{ℕ, ◌+◌, ◌*◌, ◌%◌, ◌^◌, ◌<◌}
+use mathlib.Core.Path.{◌≡◌}
+use Prim.Native.Nat.{ℕ, ◌*◌, ◌%◌, ◌<◌}
 use native.Mathlib.Nat.{mod-eq_of_lt}
 use native.Mathlib.Omega.{arith}
-use lib.Bits.{bit_or, bit_and, and_mask, mask_lt, or_shifted_r}
+use lib.Bits.{bit_or, bit_and, and_mask, or_shifted_r}
 use Rattle.insn.specs.Insn.{registers}
 
 pub nibbles : (dst src : ℕ) → bit_or (bit_and dst 15) (bit_and src 15 * 16 % 256) ≡ registers dst src

@@ -1,5 +1,5 @@
 -- Single outcomes: two outcomes that meet the promise of a public function of this crate are equal.
-use mathlib.Core.Path.{◌≡◌, sym, ◌∙◌}
+use mathlib.Core.Path.{sym, ◌∙◌}
 use Rattle.octets.proofs.Single.{OneResult}
 use Rattle.insn.proofs.Insn.new.Kinds as insn_new_kinds
 use Rattle.insn.proofs.Insn.new.Reads as insn_new

@@ -1,16 +1,13 @@
 -- One line more in the body of the open program: its code, and what is known of the body.
-use mathlib.Core.Path.{◌≡◌, refl, sym, ◌∙◌, ap}
-use mathlib.Core.Bool.{true}
+use mathlib.Core.Path.{◌≡◌, ◌∙◌, ap}
 use mathlib.Core.Option.{Option, some}
-use mathlib.Core.List.{List, [], ◌∷◌, ◌++◌, append-nil}
-use Prim.Native.Nat.{ℕ, suc, ◌+◌, ◌-◌, ◌*◌, ◌≤◌, ◌<◌}
+use mathlib.Core.List.{List, [], ◌∷◌, ◌++◌}
+use Prim.Native.Nat.{ℕ, ◌+◌, ◌-◌}
 use native.Mathlib.Numerals.{add-one}
-use native.Mathlib.Omega.{arith}
 use lib.ListN.{length, take, drop, length-append}
-use Rattle.lines.specs.Lines.{Line, lines, frame_bytes}
+use Rattle.lines.specs.Lines.{lines, frame_bytes}
 use Rattle.lines.specs.Hex.{there}
 use Rattle.lines.proofs.Laws.{line}
-use Rattle.lines.proofs.Parts.{line_length}
 use Rattle.frames.specs.Frames.{frame_of}
 use Rattle.object.specs.declared.Program.{Program}
 use Rattle.object.specs.declared.BpfObject.{BpfObject}

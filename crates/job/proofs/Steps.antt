@@ -12,7 +12,6 @@ use lib.Seq.{take-suc-set, get_or-set_same, get_or-set_other}
 use borrow.Author.Tests.{lt-ltb, eqb-true, eqb-false}
 use Rattle.octets.proofs.Laws.{read_done}
 use Rattle.lines.specs.Lines.{lines}
-use Rattle.lines.specs.Hex.{there}
 use Rattle.lines.proofs.Parts.{line_length}
 use Rattle.frames.specs.Frames.{frame_of, program, code}
 use Rattle.ast.specs.Job.{Job}

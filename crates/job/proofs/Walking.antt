@@ -2,7 +2,7 @@
 use mathlib.Core.Path.{◌≡◌, refl, sym, ◌∙◌, ap}
 use mathlib.Core.Bool.{Bool, true, false}
 use mathlib.Core.List.{List, [], ◌∷◌, ◌++◌}
-use Prim.Native.Nat.{ℕ, zero, suc, ◌+◌, ◌-◌, ◌≤◌, ◌<◌}
+use Prim.Native.Nat.{ℕ, zero, suc, ◌+◌, ◌≤◌, ◌<◌}
 use native.Mathlib.Numerals.{add-one}
 use native.Mathlib.Omega.{arith}
 use lib.Dec.{eqb}
@@ -10,8 +10,7 @@ use lib.ListN.{length, take, drop, get_or, set, length-append, length-set}
 use lib.Seq.{get_or-set_same, get_or-set_other, length-take-le}
 use borrow.Author.Tests.{eqb-true, eqb-false}
 use Rattle.lines.specs.Lines.{lines}
-use Rattle.lines.specs.Hex.{there}
-use Rattle.frames.specs.Frames.{licence, code}
+use Rattle.frames.specs.Frames.{licence}
 use Rattle.ast.specs.Job.{Map, Job}
 use Rattle.ast.specs.declared.Name.{Name}
 use Rattle.ast.specs.declared.MapDecl.{MapDecl}

@@ -1,16 +1,16 @@
 -- The answer of the definitions, by what is known of the job and of the room.
-use mathlib.Core.Path.{◌≡◌, refl, sym, ◌∙◌, ap}
-use mathlib.Core.List.{List, [], ◌∷◌, ◌++◌}
-use Prim.Native.Nat.{ℕ, ◌+◌, ◌-◌, ◌*◌, ◌≤◌, ◌<◌}
+use mathlib.Core.Path.{◌≡◌}
+use mathlib.Core.List.{List}
+use Prim.Native.Nat.{ℕ, ◌-◌, ◌≤◌, ◌<◌}
 use native.Mathlib.Omega.{arith}
-use lib.ListN.{length, take, drop}
+use lib.ListN.{length}
 use borrow.Author.Tests.{le-leb, lt-leb}
 use borrow.Rule.Slice.PartMut.{put_mid}
 use Rattle.ast.specs.Job.{Job}
 use Rattle.object.specs.Object as whole
-use Rattle.refusals.specs.Checked.{Checked, checked, accepted, faulty}
-use Rattle.job.specs.Answer.{Answer, made, refused, fitted, answer, output_after}
-use Rattle.maker.specs.Made.{Outcome, object, refusal, outcome}
+use Rattle.refusals.specs.Checked.{checked, accepted, faulty}
+use Rattle.job.specs.Answer.{refused, fitted, answer, output_after}
+use Rattle.maker.specs.Made.{object, refusal, outcome}
 
 -- an output that is too short is refused 8, and left as it is
 pub too_short : (out bytes : List ℕ) (n : ℕ) → n ≡ length bytes → length out < n

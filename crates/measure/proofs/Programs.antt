@@ -17,7 +17,7 @@ use Rattle.object.specs.Object.{plain, rel_sections, past, program_sections, rel
 use Rattle.object.specs.Kept.{AllKept}
 use Rattle.object.proofs.Counts.{length_relocations}
 use Rattle.measure.specs.declared.Measuring.{Measuring}
-use Rattle.measure.specs.Measured.{with_section, rel_at, code_at, coded, rel_of, programmed, program_row, after_programs, program_rows, ShortNames}
+use Rattle.measure.specs.Measured.{with_section, code_at, coded, rel_of, programmed, program_row, after_programs, program_rows, ShortNames}
 use Rattle.measure.proofs.Table.{Rows, rows_on}
 
 -- the programs of a job are those of the tables, as far as measuring goes

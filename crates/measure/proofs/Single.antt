@@ -1,5 +1,5 @@
 -- Single outcomes: two outcomes that meet the promise of `measure` are equal.
-use mathlib.Core.Path.{◌≡◌, sym, ◌∙◌}
+use mathlib.Core.Path.{sym, ◌∙◌}
 use Rattle.octets.proofs.Single.{OneResult, OneExit}
 use Rattle.measure.proofs.measure.Kinds as measure_kinds
 use Rattle.measure.proofs.measure.Reads as measure

@@ -22,7 +22,7 @@ use Rattle.elf.specs.Headers.{headers_bytes}
 use Rattle.elf.proofs.Headers.{headers_length, headers_append}
 use Rattle.measure.specs.declared.Measuring.{Measuring}
 use Rattle.measure.specs.declared.Sizes.{Sizes}
-use Rattle.measure.specs.Measured.{with_section, plain_on, rel_at, begun, licence_at, licensed, maps_at, roomed, btf_at, mapped, front, front_rows, code_at, coded, rel_of, programmed, symtab_at, with_symbols, with_strings, tabled, section_of, rows_from, Low, Small}
+use Rattle.measure.specs.Measured.{with_section, plain_on, rel_at, begun, licence_at, licensed, maps_at, roomed, btf_at, mapped, front, front_rows, coded, rel_of, programmed, symtab_at, with_symbols, with_strings, tabled, section_of, rows_from, Low, Small}
 
 -- `all` are the sections of the object, `rows` the headers so far, and `rest` the sections that are still to be measured
 pub record Rows (all : List Section) (rows : List code.Section) (m : Measuring) (rest : List Section) : Type 0 where

@@ -1,21 +1,20 @@
 -- The headers that are measured are those of the definitions: the licence and the maps' sections, the programs', and the three tables.
 use mathlib.Core.Path.{◌≡◌, refl, sym, ◌∙◌, ap, subst}
-use mathlib.Core.Bool.{Bool, true, false, cond}
 use mathlib.Core.List.{List, [], ◌∷◌, ◌++◌, map, map-append, append_assoc, append-nil}
 use Prim.Native.Nat.{ℕ, suc, ◌+◌, ◌*◌}
 use native.Mathlib.Omega.{arith}
 use lib.ListN.{length, take, length-append, length-map, length-replicate}
-use lib.Dec.{eqb, eqb-suc-zero}
+use lib.Dec.{eqb-suc-zero}
 use Rattle.octets.specs.Octets.{ascii, zeros}
 use Rattle.octets.specs.All.{All}
 use Rattle.octets.proofs.Lists.{all_append}
 use Rattle.ast.specs.Job.{Map, Job}
 use Rattle.ast.specs.Job as job
 use Rattle.elf.specs.Strings.{add_strings, empty_table}
-use Rattle.elf.specs.Elf.{Section, align_to, end_of, file}
+use Rattle.elf.specs.Elf.{Section, align_to, end_of}
 use Rattle.elf.specs.Entries.{null_section}
 use Rattle.elf.specs.declared.Section as code
-use Rattle.elf.specs.Row.{size_of, places_at}
+use Rattle.elf.specs.Row.{size_of}
 use Rattle.elf.proofs.Strings.{table-length}
 use Rattle.elf.proofs.Joined.{places_at_lem, count_places}
 use Rattle.elf.proofs.Places.{Aligned, length-file}
@@ -25,9 +24,8 @@ use Rattle.object.specs.declared.Slot.{Slot}
 use Rattle.object.specs.declared.Program.{Program}
 use Rattle.object.specs.declared.BpfObject.{BpfObject}
 use Rattle.object.specs.Read.{program_in, programs_in, job_in, declared_maps}
-use Rattle.object.specs.Kept.{Kept, ProgramKept, AllKept}
+use Rattle.object.specs.Kept.{Kept, AllKept}
 use Rattle.object.specs.Object.{plain, license_section, map_sections, rel_sections, past, program_sections, past_all, first_program, symbols, declared_sections, symbol_section, table_section, object}
-use Rattle.object.proofs.Counts.{symtab_number, count_symbols}
 use Rattle.object.proofs.Names.{name_length}
 use Rattle.object.proofs.Slots.{AllCounted, all_counted}
 use Rattle.strtab.specs.Rows.{behind, first_of, strtab_of, symtab_of}
@@ -36,9 +34,9 @@ use Rattle.strtab.proofs.Whole.{first_of_lem, past_of, count_declared, symtab_lo
 use Rattle.measure.specs.declared.Measuring.{Measuring}
 use Rattle.measure.specs.declared.Measured.{Measured}
 use Rattle.measure.specs.declared.Sizes.{Sizes}
-use Rattle.measure.specs.Measured.{begun, licence_at, licensed, maps_at, roomed, btf_at, mapped, front, front_rows, symtab_at, with_symbols, strtab_at, with_strings, shstrtab_at, tabled, table_rows, after_programs, program_rows, behind_all, table_sections, sections_of, rows_of, measured_of, SizesOf}
+use Rattle.measure.specs.Measured.{begun, licence_at, licensed, maps_at, btf_at, mapped, front, front_rows, symtab_at, strtab_at, with_strings, shstrtab_at, tabled, table_rows, after_programs, program_rows, behind_all, table_sections, sections_of, rows_of, measured_of, SizesOf}
 use Rattle.measure.proofs.Table.{Rows, rows_on}
-use Rattle.measure.proofs.Programs.{Same, AllSame, rows_programs}
+use Rattle.measure.proofs.Programs.{AllSame, rows_programs}
 
 -- ---- before the programs
 

@@ -1,5 +1,5 @@
 -- Single outcomes: two outcomes that meet the promise of `add_btf_map_struct` are equal.
-use mathlib.Core.Path.{◌≡◌, sym, ◌∙◌}
+use mathlib.Core.Path.{sym, ◌∙◌}
 use Rattle.octets.proofs.Single.{OneResult, OneExit}
 use Rattle.members.proofs.add_btf_map_struct.Kinds as add_btf_map_struct_kinds
 use Rattle.members.proofs.add_btf_map_struct.Reads as add_btf_map_struct

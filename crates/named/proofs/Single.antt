@@ -1,5 +1,5 @@
 -- Single outcomes: two outcomes that meet the promise of a public function of this crate are equal.
-use mathlib.Core.Path.{◌≡◌, sym, ◌∙◌}
+use mathlib.Core.Path.{sym, ◌∙◌}
 use Rattle.octets.proofs.Single.{OneResult, OneExit}
 use Rattle.named.proofs.put_name.Kinds as put_name_kinds
 use Rattle.named.proofs.put_name.Reads as put_name

@@ -1,20 +1,14 @@
 -- The tables read as a job, by one map, one program or one relocation more.
 use mathlib.Core.Path.{◌≡◌, refl, sym, ◌∙◌, ap}
 use mathlib.Core.List.{List, [], ◌∷◌, ◌++◌}
-use Prim.Native.Nat.{ℕ, zero, suc, ◌+◌, ◌≤◌, ◌<◌}
-use native.Mathlib.Numerals.{add-one}
+use Prim.Native.Nat.{ℕ, suc, ◌≤◌, ◌<◌}
 use native.Mathlib.Omega.{arith}
-use lib.ListN.{length, take, drop, get_or, set, length-append, length-take}
+use lib.ListN.{length, take, get_or, set}
 use lib.Seq.{take-suc, take-suc-set, length-take-le}
 use Rattle.ast.specs.Job.{Map}
-use Rattle.ast.specs.Job as job
-use Rattle.ast.specs.declared.Name.{Name}
 use Rattle.ast.specs.declared.MapDecl.{MapDecl}
-use Rattle.object.specs.declared.Program.{Program}
-use Rattle.object.specs.declared.Slot.{Slot}
-use Rattle.object.specs.declared.BpfObject.{BpfObject}
-use Rattle.object.specs.Tables.{no_map, no_program, Sound, with_map, with_program}
-use Rattle.object.specs.Read.{map_in, maps_in, program_in, programs_in, relocations_in, entry_in, declared_maps, job_in}
+use Rattle.object.specs.Tables.{no_map}
+use Rattle.object.specs.Read.{map_in, maps_in}
 
 -- ---- maps
 

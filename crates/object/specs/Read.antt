@@ -1,7 +1,7 @@
 -- The tables of the code, read as a job. Every name, every byte of code and every offset is a function of the text and a place, so that
 -- nothing that was read changes when the tables grow.
 use Rattle.std.proofs.Math.Option.{Option, none, some}
-use Rattle.std.specs.Prelude.{List, [], ◌∷◌, ◌++◌, map, ℕ, ◌+◌, ◌*◌, take, drop}
+use Rattle.std.specs.Prelude.{List, [], ◌∷◌, ◌++◌, ℕ, ◌+◌, ◌*◌, take, drop}
 use Rattle.octets.specs.Octets.{value, ascii}
 use Rattle.lines.specs.Lines.{Line, lines, frame_bytes}
 use Rattle.lines.specs.Hex.{bytes_in}

@@ -2,13 +2,13 @@
 -- where `rest` is what is still to come by its definition. A loop that reads keeps `result ≡ f state (drop i s)`.
 use mathlib.Core.Path.{◌≡◌, refl, sym, ◌∙◌, ap}
 use mathlib.Core.List.{List, [], ◌∷◌, ◌++◌, append_assoc, append-nil}
-use Prim.Native.Nat.{ℕ, zero, suc, ◌+◌, ◌-◌, ◌*◌, ◌/◌, ◌%◌, ◌^◌, ◌≤◌, ◌<◌, suc-le-suc}
+use Prim.Native.Nat.{ℕ, ◌+◌, ◌-◌, ◌≤◌, ◌<◌}
 use native.Mathlib.Numerals.{add-one}
-use native.Mathlib.Nat.{add_assoc, pow-zero, pow-suc, div-lt_iff_lt-mul, mod-add-div}
+use native.Mathlib.Nat.{add_assoc}
 use native.Mathlib.Omega.{arith}
 use lib.ListN.{length, take, drop, get_or, set, length-append, length-take, length-drop, drop_of_length-le}
 use lib.Seq.{take-suc-set, drop-cons, take_all, append_snoc, drop_at, take_at, drop-drop, length-take-le}
-use lib.Dec.{T, leb, eqb, leb→le, lit<}
+use lib.Dec.{T, leb, eqb, leb→le}
 use mathlib.Core.Bool.{Bool, true, false, ◌&&◌}
 use borrow.Author.Tests.{leb-true, leb-false, eqb-true, eqb-false, eq-eqb, ne_eqb}
 use borrow.Rule.Slice.PartMut.{put_mid, mid_len}

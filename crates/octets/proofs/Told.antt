@@ -4,7 +4,7 @@ use mathlib.Core.Bool.{Bool, true, false}
 use mathlib.Core.Option.{Option, none, some}
 use Prim.Native.Nat.{ℕ}
 use native.Mathlib.Omega.{arith}
-use Rattle.octets.specs.Told.{Told, gives, refuses, told, told_if}
+use Rattle.octets.specs.Told.{gives, refuses, told, told_if}
 
 -- a value that was told is there, and a refusal was told because nothing is
 pub told-there : {A : Type 0} (n : ℕ) (o : Option A) (a : A) → gives a ≡ told n o → o ≡ some a

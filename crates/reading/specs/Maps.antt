@@ -1,7 +1,7 @@
 -- Rule L6: the maps, by BTF. Nothing here names the writer or its layout.
 use Rattle.std.specs.Prelude.{Bool, false, cond, ◌&&◌, ◌||◌, List, [], ◌∷◌, ℕ, zero, suc, ◌+◌, ◌*◌, ◌/◌, ◌%◌, ◌^◌, length, drop, leb, eqb}
 use Rattle.std.proofs.Math.Option.{Option, none, some}
-use Rattle.octets.specs.Octets.{value, ascii, zeros, equal}
+use Rattle.octets.specs.Octets.{ascii, zeros, equal}
 use Rattle.ast.specs.Job.{Map}
 use Rattle.ast.specs.Numbers.{map_type_numbered}
 use Rattle.ast.specs.declared.«Type».{«Type» as MemberType}

@@ -1,5 +1,5 @@
 -- Single outcomes: two outcomes that meet the promise of a public function of this crate are equal.
-use mathlib.Core.Path.{◌≡◌, sym, ◌∙◌}
+use mathlib.Core.Path.{sym, ◌∙◌}
 use Rattle.octets.proofs.Single.{OneResult}
 use Rattle.refusals.proofs.Refusal.number.Kinds as refusal_number_kinds
 use Rattle.refusals.proofs.Refusal.number.Reads as refusal_number

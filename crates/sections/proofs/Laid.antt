@@ -1,9 +1,9 @@
 -- Sections in a row: one section written after the last, and rows one after the other.
 use mathlib.Core.Path.{◌≡◌, refl, sym, ◌∙◌, ap}
 use mathlib.Core.List.{List, [], ◌∷◌, ◌++◌, append_assoc, append-nil}
-use Prim.Native.Nat.{ℕ, ◌+◌, ◌-◌, ◌*◌, ◌≤◌, ◌<◌}
+use Prim.Native.Nat.{ℕ, ◌+◌, ◌-◌, ◌≤◌, ◌<◌}
 use native.Mathlib.Omega.{arith}
-use lib.ListN.{length, take, drop, length-append, length-replicate}
+use lib.ListN.{length, take, drop, length-replicate}
 use borrow.Rule.Slice.PartMut.{put_mid, mid_len}
 use Rattle.octets.specs.Over.{over}
 use Rattle.octets.proofs.Laws.{over-length}

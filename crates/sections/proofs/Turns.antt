@@ -2,9 +2,9 @@
 use mathlib.Core.Path.{◌≡◌, refl, sym, ◌∙◌, ap}
 use mathlib.Core.Bool.{Bool, true, false, cond}
 use mathlib.Core.List.{List, [], ◌∷◌, ◌++◌}
-use Prim.Native.Nat.{ℕ, suc, ◌+◌, ◌-◌, ◌*◌, ◌≤◌, ◌<◌}
+use Prim.Native.Nat.{ℕ, ◌+◌, ◌*◌, ◌≤◌}
 use native.Mathlib.Omega.{arith}
-use lib.ListN.{length, take, drop, get_or, length-drop, length-append, length-replicate}
+use lib.ListN.{length, take, drop, length-drop}
 use lib.Seq.{length-take-le}
 use lib.Dec.{eqb}
 use borrow.Author.Tests.{eq-eqb, ne_eqb}
@@ -16,15 +16,14 @@ use Rattle.btf.specs.Maps.{map_types, btf_types}
 use Rattle.octets.specs.All.{All}
 use Rattle.octets.proofs.Lists.{all_append}
 use Rattle.octets.proofs.Going.{Going, over_nothing, go_start, go_as, go_on, go_done}
-use Rattle.elf.specs.Elf.{Section, place, after, end_of, laid}
+use Rattle.elf.specs.Elf.{Section, after, end_of, laid}
 use Rattle.elf.specs.Added.{Alignment}
 use Rattle.elf.proofs.Places.{Aligned, end_after, length-laid}
 use Rattle.object.specs.declared.Slot.{Slot}
 use Rattle.object.specs.declared.Program.{Program}
-use Rattle.object.specs.Read.{code_of, body}
 use Rattle.contents.specs.Slots.{slots_bytes, AllPlaced}
 use Rattle.contents.proofs.Slots.{slots_length}
-use Rattle.sections.specs.Pieces.{bare, rel_piece, program_pieces, map_pieces, Fits, AllSlotted}
+use Rattle.sections.specs.Pieces.{bare, rel_piece, program_pieces, map_pieces, Fits}
 use Rattle.sections.proofs.Laid.{laid-append, end_append}
 
 -- `all` are to be written from `start` on over `d`; they are written up to `end`, and `rest` is to come

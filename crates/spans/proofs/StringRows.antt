@@ -10,7 +10,6 @@ use Rattle.octets.specs.Over.{over}
 use Rattle.octets.proofs.Filling.{over-part}
 use Rattle.octets.specs.Octets.{ascii}
 use Rattle.octets.proofs.Going.{Going, go_start, go_as, go_room, go_on, go_done, over_nothing}
-use Rattle.written.specs.Written.{written}
 use Rattle.ast.specs.Job.{Map}
 use Rattle.ast.specs.declared.«Type».{«Type» as MemberType}
 use Rattle.ast.specs.declared.MapType.{MapType}

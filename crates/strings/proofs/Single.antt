@@ -1,5 +1,5 @@
 -- Single outcomes: two outcomes that meet the promise of a public function of this crate are equal.
-use mathlib.Core.Path.{◌≡◌, sym, ◌∙◌}
+use mathlib.Core.Path.{sym, ◌∙◌}
 use Rattle.octets.proofs.Single.{OneExit}
 use Rattle.strings.proofs.put_strings.Kinds as put_strings_kinds
 use Rattle.strings.proofs.put_strings.Reads as put-strings

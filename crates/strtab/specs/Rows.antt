@@ -1,7 +1,7 @@
 -- Rows of symbols with their names one after the other, as `.symtab` and `.strtab` have them, and the symbols of the tables.
 use Rattle.std.specs.Prelude.{cond, List, [], ◌∷◌, ◌++◌, map, ◌≡◌, ℕ, suc, ◌+◌, ◌≤◌, length, take, eqb}
 use Rattle.written.specs.Written.{written}
-use Rattle.ast.specs.Job.{Map, Job}
+use Rattle.ast.specs.Job.{Job}
 use Rattle.ast.specs.declared.MapDecl.{MapDecl}
 use Rattle.elf.specs.Strings.{add_strings, empty_table}
 use Rattle.elf.specs.Elf.{Symbol, symbol_info, symbol_bytes, symbols_bytes}

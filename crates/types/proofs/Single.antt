@@ -1,5 +1,5 @@
 -- Single outcomes: two outcomes that meet the promise of a public function of this crate are equal.
-use mathlib.Core.Path.{◌≡◌, sym, ◌∙◌}
+use mathlib.Core.Path.{sym, ◌∙◌}
 use Rattle.octets.proofs.Single.{OneExit}
 use Rattle.types.proofs.build_btf.Kinds as build_btf_kinds
 use Rattle.types.proofs.build_btf.Reads as build_btf

@@ -1,6 +1,6 @@
 -- What the proofs of this crate share.
 use mathlib.Core.Path.{◌≡◌, refl, sym, ◌∙◌, ap}
-use Prim.Native.Nat.{ℕ, zero, ◌+◌, ◌*◌, ◌-◌, ◌%◌, ◌^◌, ◌≤◌, ◌<◌}
+use Prim.Native.Nat.{ℕ, ◌+◌, ◌*◌, ◌-◌, ◌%◌, ◌^◌, ◌≤◌, ◌<◌}
 use native.Mathlib.Nat.{mod-eq_of_lt}
 use native.Mathlib.Omega.{arith}
 use lib.Bits.{bit_or, bit_and, and_mask, mask_lt, or_shifted}
@@ -12,7 +12,6 @@ use mathlib.Core.Bool.{cond}
 use Rattle.utf8.specs.declared.Wait.{Wait}
 use Rattle.utf8.specs.declared.Next.{Next}
 use Rattle.utf8.specs.declared.Next.TheVariants.{Point, More}
-use Rattle.utf8.specs.declared.Decoded.{Decoded}
 use Rattle.utf8.specs.declared.Decoded.TheVariants.{Takes, Bad}
 use Rattle.utf8.specs.declared.Stepped.{Stepped}
 use Rattle.octets.specs.Told.{gives, refuses}

@@ -1,6 +1,5 @@
 -- Single outcomes: two outcomes that meet the promise of a public function of this crate are equal.
-use mathlib.Core.Path.{◌≡◌, refl, sym, ◌∙◌, ap}
-use Prim.Native.Nat.{ℕ}
+use mathlib.Core.Path.{◌≡◌, refl, sym, ◌∙◌}
 use Rattle.octets.proofs.Single.{OneResult}
 use Rattle.utf8.specs.Wait.{wait_of, decoded_told}
 use Rattle.utf8.specs.declared.Wait.{Wait}

@@ -11,7 +11,7 @@ use mathlib.Core.Bool.{cond}
 use Rattle.written.specs.Name.{char_at, rest, rest_of}
 use lib.ListN.{length, take, length-append, length-take}
 use borrow.Author.Tests.{le-leb, lt-leb, ne_eqb, leb-true, leb-false}
-use Rattle.utf8.specs.Utf8.{point, next, put, points}
+use Rattle.utf8.specs.Utf8.{put, points}
 use Rattle.written.specs.Written.{letter, letter_or_digit, written}
 use Rattle.utf8.proofs.Laws.{ok, ok_put}
 

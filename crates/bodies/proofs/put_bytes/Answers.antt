@@ -1,8 +1,7 @@
 -- `bodies::put_bytes` meets its contract. Assumes nothing.
 use mathlib.Core.Path.{◌∙◌}
 use native.Mathlib.Omega.{arith}
-use borrow.Author.Rules.{rules}
-use Rattle.bodies.proofs.Frames.{two_long, behind_hex, behind-length, behind_bytes}
+use Rattle.bodies.proofs.Frames.{behind_hex, behind-length, behind_bytes}
 use Rattle.bodies.proofs.put_bytes.Goals as goal
 
 pub put_unhex-requires : goal.put_unhex-requires

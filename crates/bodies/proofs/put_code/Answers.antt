@@ -1,21 +1,17 @@
 -- `bodies::put_code` meets its contract. The loop's invariant: where the next line starts, that the lines left are frames, and that the
 -- code of those before them is written. Assumes nothing.
-use mathlib.Core.Path.{◌≡◌, refl, sym, ◌∙◌, ap}
-use mathlib.Core.List.{List, [], ◌++◌}
-use Prim.Native.Nat.{ℕ, ◌+◌, ◌-◌, ◌≤◌, ◌<◌}
+use mathlib.Core.Path.{sym, ◌∙◌, ap}
+use mathlib.Core.List.{◌++◌}
+use Prim.Native.Nat.{◌+◌, ◌-◌, ◌≤◌, ◌<◌}
 use native.Mathlib.Omega.{arith}
 use lib.ListN.{length, take, drop}
-use borrow.Author.Rules.{rules}
-use Rattle.octets.proofs.Filling.{Filling, fill_start, fill_as, fill_room, fill_on, fill_done}
-use Rattle.lines.specs.Lines.{lines as rows}
-use Rattle.lines.specs.Ends.{line_end, end_told}
+use Rattle.octets.proofs.Filling.{fill_as, fill_room, fill_on}
+use Rattle.lines.specs.Ends.{end_told}
 use Rattle.lines.specs.Hex.{bytes_in}
-use Rattle.octets.specs.Told.{gives}
 use Rattle.lines.proofs.Laws.{line_ended}
 use Rattle.frames.specs.Frames.{frame_of}
 use Rattle.object.specs.Read.{frame_code, code_of, body}
-use Rattle.object.specs.Kept.{AllFrames}
-use Rattle.bodies.proofs.Body.{Turn, turn, not_cut, code_done}
+use Rattle.bodies.proofs.Body.{turn, not_cut}
 use Rattle.bodies.proofs.put_code.Goals as goal
 
 pub returns-in_default : goal.returns-in_default

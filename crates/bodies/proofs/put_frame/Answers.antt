@@ -1,17 +1,14 @@
 -- `bodies::put_frame` meets its contract: a frame 04, a frame 06 of ten bytes, and all others. Assumes nothing.
 use mathlib.Core.Path.{◌≡◌, sym, ◌∙◌, ap}
-use mathlib.Core.List.{List}
-use Prim.Native.Nat.{ℕ, ◌+◌, ◌*◌, ◌-◌, ◌/◌, ◌≤◌}
+use Prim.Native.Nat.{ℕ, ◌+◌, ◌-◌, ◌/◌}
 use native.Mathlib.Omega.{arith}
-use lib.ListN.{length, drop, length-drop}
-use borrow.Author.Rules.{rules}
+use lib.ListN.{length, length-drop}
 use borrow.Rule.Slice.PartMut.{mid_len}
 use Rattle.octets.proofs.Filling.{over-part}
 use Rattle.lines.specs.Hex.{bytes_in}
 use Rattle.lines.proofs.Bytes.{bytes_length}
 use Rattle.frames.specs.Frames.{frame_of}
 use Rattle.object.specs.Read.{frame_code}
-use Rattle.bodies.specs.Code.{insn_in}
 use Rattle.bodies.proofs.Frames.{code_of_four, code_of_six, code_of_others, nothing_added, two_long}
 use Rattle.bodies.proofs.put_frame.Goals as goal
 

@@ -3,7 +3,6 @@ use mathlib.Core.Path.{refl, ◌∙◌, ap}
 use mathlib.Core.List.{[], ◌∷◌}
 use Prim.Native.Nat.{ℕ, ◌+◌}
 use native.Mathlib.Omega.{arith}
-use borrow.Author.Rules.{rules}
 use Rattle.octets.specs.Over.{over}
 use Rattle.octets.proofs.Filling.{over_two}
 use Rattle.btf.specs.Btf.{info}

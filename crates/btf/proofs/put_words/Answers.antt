@@ -1,13 +1,12 @@
 -- `btf::put_words` meets its contract. Assumes nothing.
 use mathlib.Core.Path.{◌≡◌, refl}
 use mathlib.Core.List.{[], ◌++◌}
-use Prim.Native.Nat.{◌≤◌, ◌-◌, ◌+◌}
+use Prim.Native.Nat.{◌+◌}
 use native.Mathlib.Omega.{arith}
-use lib.ListN.{length, drop, get_or}
-use borrow.Author.Rules.{rules}
+use lib.ListN.{drop, get_or}
 use Rattle.octets.specs.Octets.{le}
 use Rattle.octets.specs.Over.{over}
-use Rattle.octets.proofs.Going.{Going, go_start, go_as, go_room, go_on, go_done}
+use Rattle.octets.proofs.Going.{go_start, go_as, go_on, go_done}
 use Rattle.btf.specs.Builder.{words}
 use Rattle.btf.proofs.Words.{length-words, words_on, words-done}
 use Rattle.btf.proofs.put_words.Goals as goal

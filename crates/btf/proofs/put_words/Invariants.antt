@@ -1,15 +1,8 @@
 -- `btf::put_words` meets its contract. Assumes nothing.
-use mathlib.Core.Path.{◌≡◌, refl}
-use mathlib.Core.List.{[], ◌++◌}
-use Prim.Native.Nat.{◌≤◌, ◌-◌, ◌+◌}
-use native.Mathlib.Omega.{arith}
-use lib.ListN.{length, drop, get_or}
-use borrow.Author.Rules.{rules}
-use Rattle.octets.specs.Octets.{le}
-use Rattle.octets.specs.Over.{over}
-use Rattle.octets.proofs.Going.{Going, go_start, go_as, go_room, go_on, go_done}
+use Prim.Native.Nat.{◌≤◌, ◌-◌}
+use lib.ListN.{length, drop}
+use Rattle.octets.proofs.Going.{Going}
 use Rattle.btf.specs.Builder.{words}
-use Rattle.btf.proofs.Words.{length-words, words_on, words-done}
 use Rattle.btf.proofs.put_words.Given as goal
 
 abbrev pub invariant-loop-i : goal.invariant-loop-i

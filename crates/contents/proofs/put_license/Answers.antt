@@ -1,12 +1,6 @@
 -- `contents::put_license` meets its contract. Assumes nothing.
-use mathlib.Core.Path.{◌≡◌, sym, ◌∙◌, ap}
-use mathlib.Core.List.{[], ◌∷◌, ◌++◌}
-use Prim.Native.Nat.{◌+◌}
+use mathlib.Core.Path.{ap}
 use native.Mathlib.Omega.{arith}
-use borrow.Author.Rules.{rules}
-use Rattle.octets.specs.Octets.{ascii}
-use Rattle.object.specs.declared.License.{License}
-use Rattle.object.specs.Read.{licence_in}
 use Rattle.contents.specs.Slots.{licence_len}
 use Rattle.contents.proofs.Slots.{licence_length, text-named}
 use Rattle.contents.proofs.put_license.Goals as goal

@@ -1,21 +1,10 @@
 -- `contents::put_rels` meets its contract. The loop's invariant: the slots left are placed, and the entries of those before them are
 -- written. Assumes nothing.
-use mathlib.Core.Path.{◌≡◌, refl}
-use mathlib.Core.List.{List, [], ◌++◌}
-use Prim.Native.Nat.{ℕ, ◌+◌, ◌-◌, ◌*◌, ◌≤◌}
-use native.Mathlib.Omega.{arith}
-use lib.ListN.{length, take, drop, get_or, length-drop}
-use lib.Seq.{length-take-le}
-use borrow.Author.Rules.{rules}
-use borrow.Rule.Slice.PartMut.{mid_len}
-use Rattle.octets.specs.Octets.{value}
-use Rattle.octets.proofs.Filling.{Filling, fill_start, fill_as, fill_room, fill_on, fill_done, over-part}
-use Rattle.elf.specs.Elf.{rel_bytes}
-use Rattle.object.specs.declared.Slot.{Slot}
-use Rattle.object.specs.Tables.{empty_slot}
-use Rattle.object.specs.Read.{bytes_at}
+use mathlib.Core.Path.{◌≡◌}
+use Prim.Native.Nat.{◌-◌, ◌*◌, ◌≤◌}
+use lib.ListN.{take, drop}
+use Rattle.octets.proofs.Filling.{Filling}
 use Rattle.contents.specs.Slots.{slots_bytes, AllPlaced}
-use Rattle.contents.proofs.Slots.{slots_length, Next, next_slot, not_empty, slots_done}
 use Rattle.contents.proofs.put_rels.Given as goal
 
 abbrev pub invariant-loop-i : goal.invariant-loop-i

@@ -2,7 +2,6 @@
 use mathlib.Core.Path.{◌≡◌, ◌∙◌, ap}
 use Prim.Native.Nat.{ℕ, ◌+◌}
 use native.Mathlib.Omega.{arith}
-use borrow.Author.Rules.{rules}
 use Rattle.elf.specs.Elf.{rel_bytes}
 use Rattle.contents.proofs.Slots.{offset_hex, offset_length, offset_read}
 use Rattle.contents.proofs.put_slot.Goals as goal

@@ -4,7 +4,6 @@ use mathlib.Core.List.{[], ◌∷◌}
 use Prim.Native.Nat.{◌+◌, ◌-◌, ◌*◌}
 use native.Mathlib.Omega.{arith}
 use lib.ListN.{length, take, drop}
-use borrow.Author.Rules.{rules}
 use borrow.Rule.Slice.PartMut.{put_mid, mid_len}
 use Rattle.octets.specs.Octets.{zeros}
 use Rattle.octets.proofs.Laws.{start, part, part-long, done}

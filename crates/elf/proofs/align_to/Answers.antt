@@ -1,7 +1,5 @@
 -- `elf::align_to` meets its contract. Assumes nothing.
-use native.Mathlib.Omega.{arith}
-use borrow.Author.Rules.{rules}
-use Rattle.elf.proofs.Laws.{align_one, align_mask}
+use Rattle.elf.proofs.Laws.{align_mask}
 use Rattle.elf.proofs.align_to.Goals as goal
 
 pub returns-else-align-le1 : goal.returns-else-align-le1

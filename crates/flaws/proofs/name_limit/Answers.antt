@@ -1,7 +1,6 @@
 -- `flaws::name_limit` meets its contract. Assumes nothing.
 use native.Mathlib.Omega.{arith}
 use lib.ListN.{length}
-use borrow.Author.Rules.{rules}
 use borrow.Author.Tests.{lt-ltb, le-ltb}
 use Rattle.lines.specs.Hex.{bytes_in}
 use Rattle.lines.proofs.Bytes.{bytes_length}

@@ -1,10 +1,8 @@
 -- `flaws::program_flaw` meets its contract. Assumes nothing.
 use mathlib.Core.Path.{◌≡◌, sym, ◌∙◌, ap}
-use mathlib.Core.Bool.{or-true}
 use native.Mathlib.Omega.{arith}
 use lib.ListN.{length}
-use borrow.Author.Rules.{rules}
-use borrow.Author.Tests.{eq-eqb, ne_eqb}
+use borrow.Author.Tests.{ne_eqb}
 use Rattle.octets.proofs.Told.{told_holds, told_free}
 use Rattle.lines.specs.Hex.{bytes_in}
 use Rattle.lines.proofs.Bytes.{bytes_length}

@@ -1,15 +1,8 @@
 -- `frames::read_attrs` meets its contract: each step hands what it read to the next. Assumes nothing.
 -- ---- what each step read
-use mathlib.Core.Path.{◌≡◌, sym, ◌∙◌, ap}
-use mathlib.Core.Option.{some}
-use mathlib.Core.List.{List}
-use Prim.Native.Nat.{ℕ, ◌%◌}
-use native.Mathlib.Omega.{arith}
-use lib.Dec.{eqb}
+use mathlib.Core.Path.{sym, ◌∙◌, ap}
 use lib.ListN.{drop}
-use borrow.Author.Rules.{rules}
 use Rattle.lines.specs.Hex.{bytes_in}
-use Rattle.frames.specs.Frames.{type_if, bit}
 use Rattle.frames.specs.Attrs.{type_is}
 use Rattle.octets.specs.Told.{told}
 use Rattle.octets.proofs.Told.{told-there, told_none}

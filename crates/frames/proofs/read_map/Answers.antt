@@ -1,18 +1,13 @@
 -- `frames::read_map` meets its contract. Assumes nothing.
 -- ---- what is known once the type is listed
-use mathlib.Core.Path.{◌≡◌, refl, sym, ◌∙◌, ap}
-use mathlib.Core.Option.{some}
-use Prim.Native.Nat.{◌≤◌}
+use mathlib.Core.Path.{refl, sym, ◌∙◌, ap}
 use native.Mathlib.Omega.{arith}
-use lib.ListN.{length}
-use borrow.Author.Rules.{rules}
-use Rattle.ast.specs.Numbers.{map_type_numbered}
 use Rattle.lines.specs.Hex.{bytes_in}
 use Rattle.lines.proofs.Bytes.{bytes_length}
 use Rattle.frames.specs.Attrs.{kind_told}
 use Rattle.octets.specs.Told.{told}
 use Rattle.octets.proofs.Told.{told-there, told_none}
-use Rattle.frames.proofs.Laws.{map_short, map_unlisted, map_presence, map_listed}
+use Rattle.frames.proofs.Laws.{map_unlisted, map_presence, map_listed}
 use Rattle.frames.proofs.read_map.Goals as goal
 
 pub returns-in_default : goal.returns-in_default

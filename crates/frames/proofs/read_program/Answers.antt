@@ -1,11 +1,10 @@
 -- `frames::read_program` meets its contract. Assumes nothing.
 use mathlib.Core.Path.{ap}
 use native.Mathlib.Omega.{arith}
-use borrow.Author.Rules.{rules}
 use Rattle.lines.specs.Hex.{bytes_in}
 use Rattle.lines.proofs.Bytes.{bytes_length}
 use Rattle.octets.specs.Told.{told}
-use Rattle.frames.proofs.Laws.{program_short, program_ok, program_over}
+use Rattle.frames.proofs.Laws.{program_ok, program_over}
 use Rattle.frames.proofs.read_program.Goals as goal
 
 pub returns-then-n-len : goal.returns-then-n-len

@@ -2,7 +2,6 @@
 use mathlib.Core.Path.{sym, ◌∙◌, ap}
 use native.Mathlib.Omega.{arith}
 use borrow.Author.Rules.{rules}
-use borrow.Author.Tests.{not-true, not-false}
 use Rattle.lines.specs.Hex.{bytes_in}
 use Rattle.lines.proofs.Bytes.{bytes_length}
 use Rattle.octets.specs.Told.{told}

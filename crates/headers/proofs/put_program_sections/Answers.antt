@@ -1,16 +1,8 @@
 -- `headers::put_program_sections` meets its contract. The loop's invariant: the names so far are there, and the rest is still to come.
 -- Assumes nothing.
-use mathlib.Core.Path.{◌≡◌, refl}
-use Prim.Native.Nat.{◌-◌, ◌≤◌}
 use native.Mathlib.Omega.{arith}
-use lib.ListN.{length, take}
-use borrow.Author.Rules.{rules}
-use Rattle.octets.proofs.Going.{Going, go_start}
-use Rattle.elf.specs.Row.{joined}
 use Rattle.named.proofs.There.{kept_program}
-use Rattle.strtab.specs.Rows.{ProgramsThere}
-use Rattle.headers.specs.Names.{program_section_names}
-use Rattle.headers.proofs.Names.{names_from, section_room, section_on, rel_room, rel_on, no_rel, sections_done}
+use Rattle.headers.proofs.Names.{section_room, section_on, rel_room, rel_on, no_rel, sections_done}
 use Rattle.headers.proofs.put_program_sections.Goals as goal
 
 pub put_section-at-requires : goal.put_section-at-requires

@@ -4,7 +4,6 @@ use mathlib.Core.List.{[], ◌∷◌, ◌++◌}
 use Prim.Native.Nat.{◌+◌}
 use native.Mathlib.Omega.{arith}
 use lib.ListN.{length}
-use borrow.Author.Rules.{rules}
 use Rattle.octets.specs.Octets.{ascii}
 use Rattle.octets.proofs.Filling.{over-part, over_two}
 use Rattle.object.specs.Read.{name_in}

@@ -4,7 +4,6 @@ use mathlib.Core.List.{[], ◌∷◌}
 use Prim.Native.Nat.{◌+◌, ◌-◌}
 use native.Mathlib.Omega.{arith}
 use lib.ListN.{length, length-append}
-use borrow.Author.Rules.{rules}
 use borrow.Rule.Slice.PartMut.{mid_len}
 use Rattle.octets.specs.Octets.{zeros}
 use Rattle.octets.proofs.Laws.{over-length}

@@ -3,7 +3,6 @@ use mathlib.Core.List.{[], ◌∷◌, ◌++◌}
 use Prim.Native.Nat.{◌≤◌}
 use native.Mathlib.Omega.{arith}
 use lib.ListN.{length}
-use borrow.Author.Rules.{rules}
 use Rattle.octets.specs.Octets.{ascii}
 use Rattle.octets.proofs.Filling.{over_two}
 use Rattle.headers.proofs.put_table_names.Goals as goal

@@ -1,21 +1,18 @@
 -- `job::read_line` meets its contract. Assumes nothing.
-use mathlib.Core.Path.{◌≡◌, sym, ◌∙◌, ap}
+use mathlib.Core.Path.{sym, ◌∙◌, ap}
 use Prim.Native.Nat.{◌≤◌, ◌<◌}
 use native.Mathlib.Omega.{arith}
 use lib.ListN.{length}
-use borrow.Author.Rules.{rules}
-use borrow.Author.Tests.{not-true, not-false}
-use Rattle.octets.specs.Told.{gives}
-use Rattle.lines.specs.Ends.{line_end, end_told}
+use Rattle.lines.specs.Ends.{end_told}
 use Rattle.lines.proofs.Laws.{line_ended}
 use Rattle.job.proofs.Lines.{cut_line, bad_line, good_line}
 use Rattle.job.proofs.read_line.Goals as goal
 
 pub returns-in_default : goal.returns-in_default
 returns-in_default c = record {
-      line_says = cut_line c.args.text.now c.args.at c.requires.at_in_bounds (sym c.line_end-ended.ensures ∙ ap end_told c.in_default.is);
-      end_in_bounds = c.requires.at_in_bounds;
-    }
+  line_says = cut_line c.args.text.now c.args.at c.requires.at_in_bounds (sym c.line_end-ended.ensures ∙ ap end_told c.in_default.is);
+  end_in_bounds = c.requires.at_in_bounds;
+}
 
 pub slice_bounds-is_frame-end : goal.slice_bounds-is_frame-end
 slice_bounds-is_frame-end c =

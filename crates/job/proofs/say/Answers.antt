@@ -2,16 +2,14 @@
 use mathlib.Core.Path.{◌≡◌, sym, ◌∙◌, ap, subst}
 use Prim.Native.Nat.{ℕ, suc, ◌+◌}
 use native.Mathlib.Numerals.{add-one}
-use native.Mathlib.Omega.{arith}
-use borrow.Author.Rules.{rules}
 use Rattle.octets.proofs.Told.{told-there, told_none}
 use Rattle.frames.specs.Frames.{frame_of}
 use Rattle.frames.specs.Shown.{frame_told, PlacedRead}
 use Rattle.refusals.specs.Checked.{Stage, faulty}
 use Rattle.judge.specs.Judged.{line_bytes}
 use Rattle.judge.proofs.Judge.{unread}
-use Rattle.job.specs.Walked.{Next, LineSays, line_is}
-use Rattle.job.proofs.Lines.{saying, stops_at, part-long}
+use Rattle.job.specs.Walked.{LineSays, line_is}
+use Rattle.job.proofs.Lines.{saying, stops_at}
 use Rattle.job.proofs.say.Goals as goal
 
 -- a refusal's line is the next one

@@ -1,13 +1,9 @@
 -- `judge::judge_frame` meets its contract: one arm for each kind of frame. Assumes nothing.
-use mathlib.Core.Path.{◌≡◌, refl, ◌∙◌, ap, subst}
+use mathlib.Core.Path.{refl, ◌∙◌, ap, subst}
 use mathlib.Core.Option.{some}
-use mathlib.Core.List.{List}
-use Prim.Native.Nat.{ℕ, ◌-◌, ◌*◌}
 use native.Mathlib.Omega.{arith}
-use lib.ListN.{length, drop, length-drop}
-use borrow.Author.Rules.{rules}
+use lib.ListN.{drop, length-drop}
 use Rattle.lines.proofs.Parts.{line_length}
-use Rattle.frames.specs.Frames.{frame_of}
 use Rattle.frames.specs.Shown.{shown, Placed}
 use Rattle.frames.specs.declared.Frame.{Frame}
 use Rattle.judge.specs.Judged.{line_bytes}

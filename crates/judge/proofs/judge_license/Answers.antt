@@ -1,14 +1,12 @@
 -- `judge::judge_license` meets its contract. Assumes nothing.
-use mathlib.Core.Path.{◌≡◌, sym, ◌∙◌, ap}
-use mathlib.Core.Bool.{false}
+use mathlib.Core.Path.{sym, ◌∙◌, ap}
 use mathlib.Core.Option.{some}
 use mathlib.Core.List.{List}
-use Prim.Native.Nat.{ℕ, ◌+◌, ◌-◌}
+use Prim.Native.Nat.{ℕ, ◌+◌}
 use native.Mathlib.Omega.{arith}
 use lib.Dec.{ltb}
 use lib.ListN.{length, drop}
-use borrow.Author.Rules.{rules}
-use borrow.Author.Tests.{not-false, lt-ltb, le-ltb, ltb-false}
+use borrow.Author.Tests.{not-false, le-ltb, ltb-false}
 use Rattle.octets.specs.Told.{told_if}
 use Rattle.octets.proofs.Told.{told_holds, told_free}
 use Rattle.octets.proofs.Tests.{or_false_both}
@@ -17,8 +15,8 @@ use Rattle.frames.specs.Frames.{licence}
 use Rattle.refusals.specs.Checked.{long, bad_name, bad_string, added}
 use Rattle.flaws.specs.Flaws.{flaw_told, limit_told}
 use Rattle.judge.specs.Judged.{line_bytes}
-use Rattle.judge.proofs.Pieces.{Piece, rest, part_hex, part_bytes, piece_name, piece_named}
-use Rattle.judge.proofs.Judge.{stops, goes, at_4, at_5, at_6, at_none}
+use Rattle.judge.proofs.Pieces.{rest, part_hex, part_bytes, piece_name, piece_named}
+use Rattle.judge.proofs.Judge.{stops, goes, at_5, at_6, at_none}
 use Rattle.judge.proofs.judge_license.Goals as goal
 
 pub string_flaw-flaw-requires : goal.string_flaw-flaw-requires

@@ -3,24 +3,22 @@ use mathlib.Core.Path.{◌≡◌, sym, ◌∙◌, ap}
 use mathlib.Core.Bool.{Bool, true, false, ◌||◌}
 use mathlib.Core.Option.{some}
 use mathlib.Core.List.{List}
-use Prim.Native.Nat.{ℕ, ◌+◌, ◌-◌, ◌*◌, ◌≤◌}
+use Prim.Native.Nat.{ℕ, ◌+◌, ◌*◌, ◌≤◌}
 use native.Mathlib.Omega.{arith}
 use lib.Dec.{ltb, leb}
 use lib.ListN.{length, drop}
-use borrow.Author.Rules.{rules}
-use borrow.Author.Tests.{not-false, lt-ltb, le-ltb, ltb-false, leb-false}
+use borrow.Author.Tests.{not-false, le-ltb, ltb-false, leb-false}
 use Rattle.octets.specs.Told.{told_if}
 use Rattle.octets.proofs.Told.{told_holds, told_free}
 use Rattle.octets.proofs.Tests.{or_false_both}
 use Rattle.lines.proofs.Parts.{line_length}
 use Rattle.utf8.specs.Utf8.{is_text}
-use Rattle.frames.specs.Frames.{Frame}
 use Rattle.refusals.specs.Checked.{Stage, long, bad_name, added}
 use Rattle.flaws.specs.Flaws.{flaw_told, limit_told}
 use Rattle.judge.specs.declared.Counts.{Counts}
 use Rattle.judge.specs.Judged.{line_bytes, map_frame_of, Agrees}
-use Rattle.judge.proofs.Pieces.{Piece, rest, part_hex, part_bytes, piece_name, piece_named}
-use Rattle.judge.proofs.Judge.{stops, goes, at_4, at_5, at_6, at_none}
+use Rattle.judge.proofs.Pieces.{rest, part_hex, part_bytes, piece_name, piece_named}
+use Rattle.judge.proofs.Judge.{stops, goes, at_5, at_6, at_none}
 use Rattle.judge.proofs.judge_map.Goals as goal
 
 -- the table's tests in a stage with these counts

@@ -7,19 +7,18 @@ use Prim.Native.Nat.{ℕ, ◌+◌, ◌-◌, ◌*◌, ◌≤◌}
 use native.Mathlib.Omega.{arith}
 use lib.Dec.{leb, eqb}
 use lib.ListN.{length, take, drop}
-use borrow.Author.Rules.{rules}
 use borrow.Author.Tests.{not-false, ltb-false, leb-false}
 use Rattle.octets.specs.Told.{told_if}
 use Rattle.octets.proofs.Told.{told_holds, told_free}
 use Rattle.octets.proofs.Tests.{or_false_both}
 use Rattle.lines.proofs.Parts.{line_length}
 use Rattle.utf8.specs.Utf8.{is_text, has_zero}
-use Rattle.frames.specs.Frames.{Frame, program}
+use Rattle.frames.specs.Frames.{program}
 use Rattle.refusals.specs.Checked.{Stage, long, bad_name, bad_string, bad_program, added}
 use Rattle.flaws.specs.Flaws.{flaw_told, limit_told}
 use Rattle.judge.specs.declared.Counts.{Counts}
 use Rattle.judge.specs.Judged.{line_bytes, Agrees}
-use Rattle.judge.proofs.Pieces.{Piece, middle, rest, part_hex, part_bytes, piece_name, piece_named}
+use Rattle.judge.proofs.Pieces.{middle, rest, part_hex, part_bytes, piece_name, piece_named}
 use Rattle.judge.proofs.Judge.{stops, goes, at_5, at_6, at_none}
 use Rattle.judge.proofs.judge_program.Goals as goal
 

@@ -1,29 +1,28 @@
 -- `judge::judge_relocation` meets its contract. Assumes nothing.
 use mathlib.Core.Path.{◌≡◌, refl, sym, ◌∙◌, ap, subst}
 use mathlib.Core.Bool.{Bool, true, false, ◌||◌}
-use mathlib.Core.Option.{none, some}
+use mathlib.Core.Option.{some}
 use mathlib.Core.List.{List}
 use Prim.Native.Nat.{ℕ, ◌+◌, ◌-◌, ◌≤◌, ◌<◌}
 use native.Mathlib.Omega.{arith}
 use lib.Dec.{leb, eqb}
 use lib.ListN.{length, take, drop}
-use borrow.Author.Rules.{rules}
-use borrow.Author.Tests.{ltb-false, leb-false, eq-eqb, ne_eqb}
+use borrow.Author.Tests.{ltb-false, leb-false, ne_eqb}
 use Rattle.octets.specs.Octets.{value}
-use Rattle.octets.specs.Told.{told, told_if}
+use Rattle.octets.specs.Told.{told_if}
 use Rattle.octets.proofs.Told.{told-there, told_none, told_holds, told_free}
 use Rattle.octets.proofs.Tests.{or_false_both}
 use Rattle.lines.proofs.Parts.{line_length}
 use Rattle.ast.specs.Job.{last_map}
-use Rattle.frames.specs.Frames.{Frame, relocation, frame_of}
+use Rattle.frames.specs.Frames.{relocation}
 use Rattle.object.specs.Read.{frame_code}
-use Rattle.refusals.specs.Checked.{Stage, long, bad_name, first, reasons, relocated, went}
+use Rattle.refusals.specs.Checked.{Stage, long, bad_name, relocated, went}
 use Rattle.flaws.specs.Flaws.{flaw_told, limit_told}
 use Rattle.lookup.specs.Names.{FoundIn, found_told}
 use Rattle.judge.specs.declared.Counts.{Counts}
-use Rattle.judge.specs.Judged.{line_bytes, relocation_frame_of, Agrees, Held}
-use Rattle.judge.proofs.Pieces.{Piece, rest, part_hex, part_bytes}
-use Rattle.judge.proofs.Judge.{stops, goes, found, missing, at_4, at_5, at_6, at_none}
+use Rattle.judge.specs.Judged.{line_bytes, relocation_frame_of, Agrees}
+use Rattle.judge.proofs.Pieces.{rest, part_hex, part_bytes}
+use Rattle.judge.proofs.Judge.{stops, goes, found, missing, at_5, at_6, at_none}
 use Rattle.judge.proofs.Relocation.{reading, looked}
 use Rattle.judge.proofs.judge_relocation.Goals as goal
 

@@ -1,6 +1,5 @@
 -- `lines::byte_at` meets its contract. Assumes nothing.
 use native.Mathlib.Omega.{arith}
-use borrow.Author.Rules.{rules}
 use Rattle.lines.proofs.Bytes.{digit_at, byte_here}
 use Rattle.lines.proofs.byte_at.Goals as goal
 

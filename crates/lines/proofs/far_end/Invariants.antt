@@ -1,11 +1,8 @@
 -- `lines::far_end` meets its contract. Assumes nothing.
-use mathlib.Core.Path.{◌≡◌, sym, ◌∙◌}
+use mathlib.Core.Path.{◌≡◌}
 use Prim.Native.Nat.{◌-◌}
 use lib.ListN.{length}
-use native.Mathlib.Omega.{arith}
-use borrow.Author.Rules.{rules}
 use Rattle.lines.specs.Ends.{line_end}
-use Rattle.lines.proofs.Laws.{end_on, end_here, end_none}
 use Rattle.lines.proofs.far_end.Given as goal
 
 abbrev pub invariant-loop-i : goal.invariant-loop-i

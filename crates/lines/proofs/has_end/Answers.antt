@@ -1,13 +1,7 @@
 -- `lines::has_end` meets its contract. Assumes nothing.
-use mathlib.Core.Path.{◌≡◌, refl, sym, ◌∙◌}
-use mathlib.Core.Bool.{not, ◌||◌}
-use Prim.Native.Nat.{◌-◌}
-use lib.Dec.{eqb}
-use lib.ListN.{length, drop}
+use mathlib.Core.Path.{◌∙◌}
 use native.Mathlib.Omega.{arith}
-use borrow.Author.Rules.{rules}
-use Rattle.lines.specs.Ends.{holds_end}
-use Rattle.lines.proofs.Walks.{end_found, ends_done}
+use Rattle.lines.proofs.Walks.{end_found}
 use Rattle.lines.proofs.has_end.Goals as goal
 
 pub loop-i-preserved : goal.loop-i-preserved

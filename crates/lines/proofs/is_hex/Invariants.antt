@@ -1,12 +1,10 @@
 -- `lines::is_hex` meets its contract. Assumes nothing.
-use mathlib.Core.Path.{◌≡◌, refl, sym, ◌∙◌}
+use mathlib.Core.Path.{◌≡◌}
 use mathlib.Core.Bool.{◌&&◌}
 use Prim.Native.Nat.{◌-◌}
 use lib.Dec.{eqb}
 use lib.ListN.{length, drop}
-use native.Mathlib.Omega.{arith}
-use borrow.Author.Rules.{rules}
-use Rattle.lines.proofs.Walks.{all_digits, hex_even, hex_odd, digit_on, digits_done}
+use Rattle.lines.proofs.Walks.{all_digits}
 use Rattle.lines.proofs.is_hex.Given as goal
 
 abbrev pub invariant-loop-i : goal.invariant-loop-i

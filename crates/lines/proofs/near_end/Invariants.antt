@@ -1,12 +1,8 @@
 -- `lines::near_end` meets its contract. Assumes nothing.
-use mathlib.Core.Path.{◌≡◌, refl, sym, ◌∙◌}
-use mathlib.Core.Logic.{⊎_elim}
+use mathlib.Core.Path.{◌≡◌}
 use Prim.Native.Nat.{◌-◌, ◌≤◌}
 use lib.ListN.{length}
-use native.Mathlib.Omega.{arith}
-use borrow.Author.Rules.{rules}
 use Rattle.lines.specs.Ends.{line_end}
-use Rattle.lines.proofs.Laws.{end_on}
 use Rattle.lines.proofs.near_end.Given as goal
 
 abbrev pub invariant-loop-i : goal.invariant-loop-i

@@ -1,16 +1,9 @@
 -- `lines::number_at` meets its contract. Assumes nothing.
-use mathlib.Core.Path.{◌≡◌, refl, sym, ◌∙◌, ap}
-use Prim.Native.Nat.{ℕ, ◌+◌, ◌*◌, ◌-◌, ◌^◌, ◌≤◌, ◌<◌}
-use native.Mathlib.Nat.{sub_self}
-use native.Mathlib.Omega.{arith}
-use lib.Dec.{lit<}
-use lib.ListN.{length, take, drop, get_or}
-use borrow.Author.Rules.{rules}
+use mathlib.Core.Path.{◌≡◌}
+use Prim.Native.Nat.{◌-◌, ◌^◌, ◌≤◌, ◌<◌}
+use lib.ListN.{take, drop}
 use Rattle.octets.specs.Octets.{value}
-use Rattle.octets.proofs.Laws.{read_done}
-use Rattle.octets.proofs.Reading.{small, more, larger}
 use Rattle.lines.specs.Hex.{bytes_in}
-use Rattle.lines.proofs.Bytes.{part_length, part_byte}
 use Rattle.lines.proofs.number_at.Given as goal
 
 abbrev pub invariant-loop-k : goal.invariant-loop-k

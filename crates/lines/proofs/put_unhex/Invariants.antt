@@ -1,13 +1,9 @@
 -- `lines::put_unhex` meets its contract. Assumes nothing.
-use mathlib.Core.Path.{◌≡◌, refl, sym, ◌∙◌, ap}
-use mathlib.Core.List.{◌∷◌, ◌++◌}
-use Prim.Native.Nat.{ℕ, ◌+◌, ◌*◌, ◌≤◌, ◌-◌}
-use native.Mathlib.Omega.{arith}
-use lib.ListN.{length, take, drop, length-set}
-use borrow.Author.Rules.{rules}
-use Rattle.octets.proofs.Laws.{read_on, read_done, write_on, write_done}
+use mathlib.Core.Path.{◌≡◌}
+use mathlib.Core.List.{◌++◌}
+use Prim.Native.Nat.{◌*◌, ◌≤◌, ◌-◌}
+use lib.ListN.{length, take, drop}
 use Rattle.lines.specs.Hex.{bytes_in}
-use Rattle.lines.proofs.Bytes.{bytes_length, digit_at, byte_here}
 use Rattle.lines.proofs.put_unhex.Given as goal
 
 abbrev pub invariant-loop-i : goal.invariant-loop-i

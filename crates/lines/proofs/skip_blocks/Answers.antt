@@ -1,12 +1,10 @@
 -- `lines::skip_blocks` meets its contract. Assumes nothing.
-use mathlib.Core.Path.{◌≡◌, refl, sym, ◌∙◌, ap}
+use mathlib.Core.Path.{◌≡◌, sym, ◌∙◌, ap}
 use mathlib.Core.Bool.{false}
-use mathlib.Core.List.{List}
-use Prim.Native.Nat.{ℕ, ◌+◌, ◌-◌, ◌≤◌}
-use lib.ListN.{length, take, drop}
+use Prim.Native.Nat.{ℕ, ◌+◌, ◌-◌}
+use lib.ListN.{take, drop}
 use native.Mathlib.Omega.{arith}
-use borrow.Author.Rules.{rules}
-use Rattle.lines.specs.Ends.{holds_end, line_end}
+use Rattle.lines.specs.Ends.{holds_end}
 use Rattle.lines.proofs.Walks.{block_on}
 use Rattle.lines.proofs.skip_blocks.Goals as goal
 

@@ -1,15 +1,7 @@
 -- `lookup::find_map` meets its contract: no map from `i` on has the name. Assumes nothing.
-use mathlib.Core.Path.{◌≡◌, refl, sym, ◌∙◌, ap}
-use mathlib.Core.List.{List}
-use Prim.Native.Nat.{ℕ, ◌-◌, ◌≤◌}
+use mathlib.Core.Path.{sym, ◌∙◌, ap}
 use native.Mathlib.Omega.{arith}
-use lib.ListN.{length, take}
-use borrow.Author.Rules.{rules}
 use Rattle.octets.specs.Told.{told}
-use Rattle.lines.specs.Hex.{bytes_in}
-use Rattle.ast.specs.Job.{last_map}
-use Rattle.ast.specs.declared.MapDecl.{MapDecl}
-use Rattle.object.specs.Read.{maps_in}
 use Rattle.lookup.proofs.Names.{here, not_here}
 use Rattle.lookup.proofs.find_map.Goals as goal
 

@@ -1,16 +1,12 @@
 -- `lookup::find_map` meets its contract: no map from `i` on has the name. Assumes nothing.
-use mathlib.Core.Path.{◌≡◌, refl, sym, ◌∙◌, ap}
+use mathlib.Core.Path.{◌≡◌}
 use mathlib.Core.List.{List}
-use Prim.Native.Nat.{ℕ, ◌-◌, ◌≤◌}
-use native.Mathlib.Omega.{arith}
+use Prim.Native.Nat.{◌≤◌}
 use lib.ListN.{length, take}
-use borrow.Author.Rules.{rules}
-use Rattle.octets.specs.Told.{told}
 use Rattle.lines.specs.Hex.{bytes_in}
 use Rattle.ast.specs.Job.{last_map}
 use Rattle.ast.specs.declared.MapDecl.{MapDecl}
 use Rattle.object.specs.Read.{maps_in}
-use Rattle.lookup.proofs.Names.{here, not_here}
 use Rattle.lookup.proofs.find_map.Given as goal
 
 abbrev pub invariant-loop-i : goal.invariant-loop-i

@@ -1,19 +1,16 @@
 -- `maker::build` meets its contract. Assumes nothing.
-use mathlib.Core.Path.{◌≡◌, refl, sym, ◌∙◌, ap}
+use mathlib.Core.Path.{◌≡◌, refl, ◌∙◌, ap}
 use mathlib.Core.List.{List}
-use Prim.Native.Nat.{ℕ, suc, ◌+◌, ◌-◌, ◌*◌, ◌≤◌}
+use Prim.Native.Nat.{ℕ, ◌-◌, ◌*◌, ◌≤◌}
 use native.Mathlib.Omega.{arith}
-use lib.ListN.{length, take, drop}
-use borrow.Author.Rules.{rules}
+use lib.ListN.{take, drop}
 use borrow.Rule.Slice.PartMut.{mid_len}
 use Rattle.object.specs.Read.{job_in}
-use Rattle.object.specs.Object as whole
 use Rattle.named.proofs.Names.{over-front}
 use Rattle.elf.specs.Headers.{headers_bytes}
 use Rattle.measure.specs.declared.Measured.{Measured}
-use Rattle.measure.specs.Measured.{rows_of, measured_of}
+use Rattle.measure.specs.Measured.{rows_of}
 use Rattle.maker.proofs.Sizes.{few_sections, count_is_lem, headers_long}
-use Rattle.maker.proofs.Answered.{too_short, fits}
 use Rattle.maker.proofs.build.Goals as goal
 
 pub overflow_mul-headers : goal.overflow_mul-headers

@@ -1,17 +1,12 @@
 -- `maker::encode` meets its contract: the file header, the sections, the zeros after them, the section headers. Assumes nothing.
-use mathlib.Core.Path.{◌≡◌, refl, sym, ◌∙◌, ap, subst}
-use mathlib.Core.List.{List, [], ◌∷◌, ◌++◌}
-use Prim.Native.Nat.{ℕ, suc, ◌+◌, ◌-◌, ◌*◌, ◌≤◌, ◌<◌}
+use mathlib.Core.Path.{◌≡◌, sym, ◌∙◌, ap}
+use Prim.Native.Nat.{◌+◌, ◌-◌, ◌*◌, ◌≤◌}
 use native.Mathlib.Omega.{arith}
-use lib.ListN.{length, take, drop}
-use borrow.Author.Rules.{rules}
+use lib.ListN.{length}
 use borrow.Rule.Slice.PartMut.{mid_len}
 use Rattle.octets.specs.Octets.{zeros}
-use Rattle.octets.proofs.Filling.{fill_left, fill_room}
-use Rattle.object.specs.Read.{job_in}
-use Rattle.object.specs.Object.{object}
+use Rattle.octets.proofs.Filling.{fill_left}
 use Rattle.measure.specs.declared.Measured.{Measured}
-use Rattle.measure.specs.Measured.{measured_of}
 use Rattle.maker.proofs.Sizes.{few_sections, count_is_lem, ends_before, room_for, file_filled, sections_filled, padding_filled, headers_long, headers_filled}
 use Rattle.maker.proofs.encode.Goals as goal
 

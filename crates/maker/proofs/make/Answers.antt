@@ -1,16 +1,13 @@
 -- `maker::make` meets its contract. Assumes nothing.
 use mathlib.Core.Path.{◌≡◌, sym, ◌∙◌, ap, subst}
-use Prim.Native.Nat.{◌-◌}
 use lib.ListN.{length}
-use borrow.Author.Rules.{rules}
-use Rattle.object.specs.Read.{job_in}
-use Rattle.refusals.specs.Checked.{checked, accepted, faulty}
+use Rattle.refusals.specs.Checked.{checked, faulty}
 use Rattle.refusals.specs.Refusal.{number_of, line_of}
 use Rattle.job.specs.Answer.{Answer, output_after}
-use Rattle.job.specs.Walked.{parsing_in, ParsingKept}
+use Rattle.job.specs.Walked.{parsing_in}
 use Rattle.job.specs.declared.Parsing.{Parsing}
 use Rattle.maker.specs.Made.{refusal, outcome, ended_with, outcome_of}
-use Rattle.maker.proofs.Answered.{answer_accepted, answer_faulty}
+use Rattle.maker.proofs.Answered.{answer_faulty}
 use Rattle.maker.proofs.Numbers.{LowChecked, checked_low, nothing_needed}
 use Rattle.maker.proofs.make.Goals as goal
 

@@ -1,9 +1,6 @@
 -- `maker::weigh` meets its contract. Assumes nothing.
-use mathlib.Core.Path.{◌≡◌, sym, ◌∙◌}
-use Prim.Native.Nat.{ℕ, ◌+◌, ◌≤◌}
+use mathlib.Core.Path.{sym, ◌∙◌}
 use native.Mathlib.Omega.{arith}
-use lib.ListN.{length}
-use borrow.Author.Rules.{rules}
 use Rattle.btf.specs.Btf.{add_types, start}
 use Rattle.btf.specs.Maps.{btf_types}
 use Rattle.btf.proofs.Types.{length-finished}
@@ -25,10 +22,10 @@ returns c =
         strtab = sym c.strtab_size-strtab.ensures.value;
       };
       small = record {
-          license = omega (arith, c.license_len-license.ensures, licence_short a.text.now a.object k);
-          maps = w.strings_bound.1;
-          btf = omega (arith, w.strings_bound.0);
-          strtab = c.strtab_size-strtab.ensures.upper_bound;
-        };
+        license = omega (arith, c.license_len-license.ensures, licence_short a.text.now a.object k);
+        maps = w.strings_bound.1;
+        btf = omega (arith, w.strings_bound.0);
+        strtab = c.strtab_size-strtab.ensures.upper_bound;
+      };
       types_value = w.types_value;
     }

@@ -1,15 +1,5 @@
 -- `maker::weigh_maps` meets its contract: with no map, the numbers are those that the definitions give for none. Assumes nothing.
-use mathlib.Core.Path.{◌≡◌, sym, ap}
-use mathlib.Core.List.{List, []}
-use Prim.Native.Nat.{ℕ, ◌+◌, ◌*◌, ◌≤◌}
 use native.Mathlib.Omega.{arith}
-use lib.ListN.{length, take}
-use borrow.Author.Rules.{rules}
-use Rattle.ast.specs.Job.{Map}
-use Rattle.btf.specs.Btf.{add_types, start}
-use Rattle.btf.specs.Maps.{map_types, btf_types}
-use Rattle.object.specs.Read.{maps_in, declared_maps}
-use Rattle.named.proofs.There.{lent_maps}
 use Rattle.maker.proofs.Sizes.{rooms}
 use Rattle.maker.proofs.weigh_maps.Goals as goal
 

@@ -1,10 +1,6 @@
 -- `measure::add_section` meets its contract. Assumes nothing.
-use mathlib.Core.Path.{◌≡◌, refl, ◌∙◌}
-use Prim.Native.Nat.{◌+◌, ◌-◌, ◌*◌, ◌≤◌}
-use native.Mathlib.Omega.{arith}
-use lib.ListN.{length}
-use borrow.Author.Rules.{rules}
-use borrow.Rule.Slice.PartMut.{mid_len}
+use mathlib.Core.Path.{refl}
+use Prim.Native.Nat.{◌*◌}
 use Rattle.measure.proofs.Table.{row_over}
 use Rattle.measure.proofs.add_section.Goals as goal
 

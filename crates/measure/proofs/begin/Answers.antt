@@ -1,8 +1,5 @@
 -- `measure::begin` meets its contract. Assumes nothing.
-use mathlib.Core.Path.{◌≡◌, refl, ◌∙◌, ap}
-use native.Mathlib.Omega.{arith}
-use borrow.Author.Rules.{rules}
-use borrow.Rule.Slice.PartMut.{mid_len}
+use mathlib.Core.Path.{refl, ◌∙◌, ap}
 use Rattle.elf.specs.Elf.{header_bytes}
 use Rattle.elf.specs.Entries.{header_of, null_section}
 use Rattle.elf.specs.declared.Section.{Section}

@@ -1,17 +1,15 @@
 -- `measure::measure` meets its contract. Assumes nothing.
-use mathlib.Core.Path.{◌≡◌, refl, sym, ◌∙◌, ap}
-use mathlib.Core.List.{List, [], ◌++◌}
-use Prim.Native.Nat.{ℕ, ◌+◌, ◌*◌, ◌≤◌}
+use mathlib.Core.Path.{◌≡◌, refl, ◌∙◌, ap}
+use mathlib.Core.List.{List, ◌++◌}
+use Prim.Native.Nat.{◌+◌, ◌*◌, ◌≤◌}
 use native.Mathlib.Omega.{arith}
 use lib.ListN.{length, take, length-append}
 use lib.Seq.{length-take-le}
-use borrow.Author.Rules.{rules}
 use Rattle.octets.specs.Over.{over}
 use Rattle.elf.specs.Elf.{align_to}
 use Rattle.elf.specs.Added.{eight}
 use Rattle.elf.specs.declared.Section as code
 use Rattle.elf.proofs.Places.{align_near}
-use Rattle.object.specs.declared.Program.{Program}
 use Rattle.object.specs.Read.{job_in}
 use Rattle.elf.specs.Headers.{headers_bytes}
 use Rattle.measure.specs.declared.Measuring.{Measuring}
@@ -36,7 +34,7 @@ pub align_to-at-requires : goal.align_to-at-requires
 align_to-at-requires c =
     let programs = take c.args.object.program_count c.args.object.programs in
     let before : (let z = c.args.sizes in let n = c.args.object.map_count in Has c.args.table.now 0 c.measure_front-before.new.table (front_rows z n) × (c.measure_front-before.result ≡ front z n)) = (let z = c.args.sizes in let n = c.args.object.map_count in (record { is = c.measure_front-before.ensures.table_after; room = omega (arith, front_count z n, low_front z n c.requires.small, c.requires.table_len) }, c.measure_front-before.ensures.value)) in
-    let declared : (let z = c.args.sizes in let n = c.args.object.map_count in let first = c.first_program-first.result in Has c.args.table.now 0 c.measure_declared-declared.new.table (front_rows z n ++ declared_rows (front z n) first (programs)) × (c.measure_declared-declared.result ≡ after_declared (front z n) first (programs)) × Low 68 c.measure_declared-declared.result) = (let z = c.args.sizes in let n = c.args.object.map_count in let first = c.first_program-first.result in let few = rows_few (front z n) (behind_all (programs) first) (programs) in let count = length-take-le c.args.object.program_count c.args.object.programs (omega (arith, c.requires.kept.sound)) in let bytes = c.measure_declared-declared.ensures.table_after ∙ ap (λ (m : Measuring). over c.measure_front-before.new.table (64 * m.count) (headers_bytes (declared_rows m first (programs)))) (before).1 in ( has_on _ (front z n).count (declared_rows (front z n) first (programs)) (before).0 bytes (from_zero (front_count z n)) (omega (arith, front_count z n, low_front z n c.requires.small, few, count, c.requires.kept.sound, c.requires.table_len)), c.measure_declared-declared.ensures.value ∙ ap (λ (m : Measuring). after_declared m first (programs)) (before).1, low_more c.measure_declared-declared.ensures.low_2 (omega (arith, c.requires.kept.sound.few_programs)), )) in
+    let declared : (let z = c.args.sizes in let n = c.args.object.map_count in let first = c.first_program-first.result in Has c.args.table.now 0 c.measure_declared-declared.new.table (front_rows z n ++ declared_rows (front z n) first (programs)) × (c.measure_declared-declared.result ≡ after_declared (front z n) first (programs)) × Low 68 c.measure_declared-declared.result) = (let z = c.args.sizes in let n = c.args.object.map_count in let first = c.first_program-first.result in let few = rows_few (front z n) (behind_all (programs) first) (programs) in let count = length-take-le c.args.object.program_count c.args.object.programs (omega (arith, c.requires.kept.sound)) in let bytes = c.measure_declared-declared.ensures.table_after ∙ ap (λ (m : Measuring). over c.measure_front-before.new.table (64 * m.count) (headers_bytes (declared_rows m first (programs)))) (before).1 in (has_on _ (front z n).count (declared_rows (front z n) first (programs)) (before).0 bytes (from_zero (front_count z n)) (omega (arith, front_count z n, low_front z n c.requires.small, few, count, c.requires.kept.sound, c.requires.table_len)), c.measure_declared-declared.ensures.value ∙ ap (λ (m : Measuring). after_declared m first (programs)) (before).1, low_more c.measure_declared-declared.ensures.low_2 (omega (arith, c.requires.kept.sound.few_programs)))) in
     let low : Low 71 c.measure_tables-whole.result = (let a = c.args in rw c.measure_tables-whole.ensures.value (low_tabled (2 + a.object.map_count + a.object.program_count) a.sizes.strtab (declared).2 (omega (arith, c.requires.kept.sound)) c.requires.small.strtab)) in record {
       alignment = eight;
       align_bound = omega (arith, low);
@@ -46,7 +44,7 @@ pub returns : goal.returns
 returns c =
     let programs = take c.args.object.program_count c.args.object.programs in
     let before : (let z = c.args.sizes in let n = c.args.object.map_count in Has c.args.table.now 0 c.measure_front-before.new.table (front_rows z n) × (c.measure_front-before.result ≡ front z n)) = (let z = c.args.sizes in let n = c.args.object.map_count in (record { is = c.measure_front-before.ensures.table_after; room = omega (arith, front_count z n, low_front z n c.requires.small, c.requires.table_len) }, c.measure_front-before.ensures.value)) in
-    let declared : (let z = c.args.sizes in let n = c.args.object.map_count in let first = c.first_program-first.result in Has c.args.table.now 0 c.measure_declared-declared.new.table (front_rows z n ++ declared_rows (front z n) first (programs)) × (c.measure_declared-declared.result ≡ after_declared (front z n) first (programs)) × Low 68 c.measure_declared-declared.result) = (let z = c.args.sizes in let n = c.args.object.map_count in let first = c.first_program-first.result in let few = rows_few (front z n) (behind_all (programs) first) (programs) in let count = length-take-le c.args.object.program_count c.args.object.programs (omega (arith, c.requires.kept.sound)) in let bytes = c.measure_declared-declared.ensures.table_after ∙ ap (λ (m : Measuring). over c.measure_front-before.new.table (64 * m.count) (headers_bytes (declared_rows m first (programs)))) (before).1 in ( has_on _ (front z n).count (declared_rows (front z n) first (programs)) (before).0 bytes (from_zero (front_count z n)) (omega (arith, front_count z n, low_front z n c.requires.small, few, count, c.requires.kept.sound, c.requires.table_len)), c.measure_declared-declared.ensures.value ∙ ap (λ (m : Measuring). after_declared m first (programs)) (before).1, low_more c.measure_declared-declared.ensures.low_2 (omega (arith, c.requires.kept.sound.few_programs)), )) in
+    let declared : (let z = c.args.sizes in let n = c.args.object.map_count in let first = c.first_program-first.result in Has c.args.table.now 0 c.measure_declared-declared.new.table (front_rows z n ++ declared_rows (front z n) first (programs)) × (c.measure_declared-declared.result ≡ after_declared (front z n) first (programs)) × Low 68 c.measure_declared-declared.result) = (let z = c.args.sizes in let n = c.args.object.map_count in let first = c.first_program-first.result in let few = rows_few (front z n) (behind_all (programs) first) (programs) in let count = length-take-le c.args.object.program_count c.args.object.programs (omega (arith, c.requires.kept.sound)) in let bytes = c.measure_declared-declared.ensures.table_after ∙ ap (λ (m : Measuring). over c.measure_front-before.new.table (64 * m.count) (headers_bytes (declared_rows m first (programs)))) (before).1 in (has_on _ (front z n).count (declared_rows (front z n) first (programs)) (before).0 bytes (from_zero (front_count z n)) (omega (arith, front_count z n, low_front z n c.requires.small, few, count, c.requires.kept.sound, c.requires.table_len)), c.measure_declared-declared.ensures.value ∙ ap (λ (m : Measuring). after_declared m first (programs)) (before).1, low_more c.measure_declared-declared.ensures.low_2 (omega (arith, c.requires.kept.sound.few_programs)))) in
     let low : Low 71 c.measure_tables-whole.result = (let a = c.args in rw c.measure_tables-whole.ensures.value (low_tabled (2 + a.object.map_count + a.object.program_count) a.sizes.strtab (declared).2 (omega (arith, c.requires.kept.sound)) c.requires.small.strtab)) in
     let near : c.align_to-at.result ≤ c.measure_tables-whole.result.end + 8 = omega (arith, c.align_to-at.ensures, align_near 8 c.measure_tables-whole.result.end (omega arith)) in
     let a = c.args in

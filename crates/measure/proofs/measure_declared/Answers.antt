@@ -1,15 +1,14 @@
 -- `measure::measure_declared` meets its contract: with no program nothing is measured. Assumes nothing.
-use mathlib.Core.Path.{◌≡◌, sym, ◌∙◌, ap, subst}
+use mathlib.Core.Path.{◌≡◌, sym, ◌∙◌, ap}
 use mathlib.Core.List.{List, []}
-use Prim.Native.Nat.{ℕ, ◌+◌, ◌*◌, ◌≤◌}
+use Prim.Native.Nat.{ℕ, ◌*◌}
 use native.Mathlib.Omega.{arith}
-use lib.ListN.{length, take}
-use borrow.Author.Rules.{rules}
+use lib.ListN.{take}
 use Rattle.octets.specs.Over.{over}
 use Rattle.octets.proofs.Going.{over_nothing}
 use Rattle.object.specs.declared.Program.{Program}
 use Rattle.elf.specs.Headers.{headers_bytes}
-use Rattle.measure.specs.Measured.{after_programs, program_rows, after_declared, declared_rows}
+use Rattle.measure.specs.Measured.{after_declared, declared_rows}
 use Rattle.measure.proofs.Table.{low_more}
 use Rattle.measure.proofs.measure_declared.Goals as goal
 

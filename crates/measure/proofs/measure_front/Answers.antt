@@ -1,19 +1,17 @@
 -- `measure::measure_front` meets its contract. Assumes nothing.
-use mathlib.Core.Path.{◌≡◌, sym, ◌∙◌, ap}
+use mathlib.Core.Path.{◌≡◌, ◌∙◌, ap}
 use mathlib.Core.Bool.{true, false}
-use mathlib.Core.List.{List, [], ◌∷◌}
-use Prim.Native.Nat.{ℕ, suc, ◌+◌, ◌*◌, ◌≤◌}
+use mathlib.Core.List.{[], ◌∷◌}
+use Prim.Native.Nat.{◌+◌, ◌*◌}
 use native.Mathlib.Omega.{arith}
-use lib.ListN.{length}
 use lib.Dec.{eqb}
-use borrow.Author.Rules.{rules}
 use borrow.Author.Tests.{eq-eqb, ne_eqb}
 use Rattle.octets.specs.Over.{over}
 use Rattle.elf.specs.Added.{one, four, eight}
 use Rattle.elf.specs.Entries.{null_section}
 use Rattle.elf.specs.Headers.{headers_bytes}
 use Rattle.measure.specs.declared.Measuring.{Measuring}
-use Rattle.measure.specs.Measured.{with_section, plain_on, begun, licence_at, licensed, maps_at, roomed, btf_at, mapped, Low, Small}
+use Rattle.measure.specs.Measured.{with_section, plain_on, begun, licence_at, licensed, maps_at, roomed, btf_at}
 use Rattle.measure.proofs.Table.{Has, has_long, has_on, low_more, low_begun, low_licensed, low_roomed}
 use Rattle.measure.proofs.measure_front.Goals as goal
 

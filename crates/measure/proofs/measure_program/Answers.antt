@@ -1,33 +1,30 @@
 -- `measure::measure_program` meets its contract. Assumes nothing.
-use mathlib.Core.Path.{◌≡◌, refl, sym, ◌∙◌, ap}
-use mathlib.Core.Bool.{true, false}
+use mathlib.Core.Path.{◌≡◌, ◌∙◌, ap}
+use mathlib.Core.Bool.{false}
 use mathlib.Core.List.{[], ◌∷◌}
-use Prim.Native.Nat.{ℕ, suc, ◌+◌, ◌*◌, ◌≤◌, ◌<◌}
+use Prim.Native.Nat.{◌*◌}
 use native.Mathlib.Omega.{arith}
-use lib.ListN.{length}
 use lib.Dec.{eqb}
-use borrow.Author.Rules.{rules}
-use borrow.Author.Tests.{eq-eqb, ne_eqb}
+use borrow.Author.Tests.{ne_eqb}
 use Rattle.octets.specs.Over.{over}
 use Rattle.elf.specs.Added.{eight}
 use Rattle.elf.specs.declared.Section as code
-use Rattle.elf.proofs.Places.{align_near}
 use Rattle.elf.specs.Headers.{headers_bytes}
 use Rattle.measure.specs.declared.Measuring.{Measuring}
-use Rattle.measure.specs.Measured.{with_section, rel_at, code_at, coded, rel_of, programmed, Low}
-use Rattle.measure.proofs.Table.{Has, has_long, has_on, low_coded, low_programmed}
+use Rattle.measure.specs.Measured.{with_section, rel_at, code_at, coded, rel_of, programmed}
+use Rattle.measure.proofs.Table.{Has, has_on, low_programmed}
 use Rattle.measure.proofs.measure_program.Goals as goal
 
 pub plain-code-requires : goal.plain-code-requires
 plain-code-requires c = record {
-      name_bound = omega (arith, c.requires.low);
-      alignment = eight;
-      align_bound = omega (arith, c.requires.low);
-    }
+  name_bound = omega (arith, c.requires.low);
+  alignment = eight;
+  align_bound = omega (arith, c.requires.low);
+}
 
 pub returns : goal.returns
 returns c =
-    let first : (let a = c.args in Has a.table.now a.m.count c.add_section-coded.new.table (code_at a.m a.program ∷ []) × (c.add_section-coded.result ≡ coded a.m a.program)) = (let a = c.args in ( record { is = c.add_section-coded.ensures.table_after ∙ ap (λ (s : code.Section). over a.table.now (64 * a.m.count) (headers_bytes (s ∷ []))) c.plain-code.ensures; room = omega (arith, c.requires); }, c.add_section-coded.ensures.value ∙ ap (λ (s : code.Section). with_section a.m s a.program.section.len) c.plain-code.ensures, )) in
+    let first : (let a = c.args in Has a.table.now a.m.count c.add_section-coded.new.table (code_at a.m a.program ∷ []) × (c.add_section-coded.result ≡ coded a.m a.program)) = (let a = c.args in (record { is = c.add_section-coded.ensures.table_after ∙ ap (λ (s : code.Section). over a.table.now (64 * a.m.count) (headers_bytes (s ∷ []))) c.plain-code.ensures; room = omega (arith, c.requires) }, c.add_section-coded.ensures.value ∙ ap (λ (s : code.Section). with_section a.m s a.program.section.len) c.plain-code.ensures)) in
     let a = c.args in
     let m = a.m in
     let some : eqb a.program.relocs 0 ≡ false = ne_eqb a.program.relocs 0 (omega arith) in

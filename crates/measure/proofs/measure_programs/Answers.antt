@@ -1,13 +1,13 @@
 -- `measure::measure_programs` meets its contract. The loop's invariant: the programs so far are measured, and the others are still to come.
 -- Assumes nothing.
 use mathlib.Core.Path.{◌≡◌, refl, sym, ◌∙◌, ap, subst}
-use mathlib.Core.List.{List, [], ◌∷◌, ◌++◌}
-use Prim.Native.Nat.{ℕ, suc, ◌+◌, ◌-◌, ◌*◌, ◌≤◌, ◌<◌}
+use mathlib.Core.List.{List, [], ◌++◌}
+use Prim.Native.Nat.{ℕ, suc, ◌+◌, ◌*◌, ◌≤◌}
 use native.Mathlib.Omega.{arith}
 use lib.ListN.{length, take, drop, get_or}
 use lib.Seq.{length-take-le}
 use borrow.Author.Rules.{rules}
-use Rattle.octets.proofs.Going.{Going, go_start, go_as, go_on, go_done}
+use Rattle.octets.proofs.Going.{go_start, go_as, go_on, go_done}
 use Rattle.object.specs.declared.Program.{Program}
 use Rattle.object.specs.Tables.{no_program}
 use Rattle.elf.specs.Headers.{headers_bytes}

@@ -1,22 +1,14 @@
 -- `measure::measure_programs` meets its contract. The loop's invariant: the programs so far are measured, and the others are still to come.
 -- Assumes nothing.
-use mathlib.Core.Path.{◌≡◌, refl, sym, ◌∙◌, ap, subst}
-use mathlib.Core.List.{List, [], ◌∷◌, ◌++◌}
-use Prim.Native.Nat.{ℕ, suc, ◌+◌, ◌-◌, ◌*◌, ◌≤◌, ◌<◌}
-use native.Mathlib.Omega.{arith}
-use lib.ListN.{length, take, drop, get_or}
-use lib.Seq.{length-take-le}
-use borrow.Author.Rules.{rules}
-use Rattle.octets.proofs.Going.{Going, go_start, go_as, go_on, go_done}
+use mathlib.Core.Path.{◌≡◌}
+use mathlib.Core.List.{List}
+use Prim.Native.Nat.{ℕ, ◌+◌, ◌-◌, ◌*◌, ◌≤◌}
+use lib.ListN.{length, take, drop}
+use Rattle.octets.proofs.Going.{Going}
 use Rattle.object.specs.declared.Program.{Program}
-use Rattle.object.specs.Tables.{no_program}
 use Rattle.elf.specs.Headers.{headers_bytes}
-use Rattle.elf.proofs.Headers.{headers_length, headers_append}
-use Rattle.strtab.proofs.Rows.{program_from, program_end}
 use Rattle.measure.specs.declared.Measuring.{Measuring}
-use Rattle.measure.specs.Measured.{programmed, program_row, after_programs, program_rows, Low, ShortNames}
-use Rattle.measure.proofs.Table.{low_more}
-use Rattle.measure.proofs.Programs.{rows_few, row_count}
+use Rattle.measure.specs.Measured.{after_programs, program_rows, Low, ShortNames}
 use Rattle.measure.proofs.measure_programs.Given as goal
 
 -- the headers of programs

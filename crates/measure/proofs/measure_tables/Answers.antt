@@ -1,26 +1,21 @@
 -- `measure::measure_tables` meets its contract. Assumes nothing.
-use mathlib.Core.Path.{◌≡◌, sym, ◌∙◌, ap}
+use mathlib.Core.Path.{◌≡◌, ◌∙◌, ap}
 use mathlib.Core.List.{[], ◌∷◌}
-use Prim.Native.Nat.{ℕ, suc, ◌+◌, ◌*◌, ◌≤◌}
+use Prim.Native.Nat.{◌+◌, ◌*◌}
 use native.Mathlib.Omega.{arith}
-use lib.ListN.{length}
-use borrow.Author.Rules.{rules}
 use Rattle.octets.specs.Over.{over}
-use Rattle.elf.specs.Elf.{align_to}
 use Rattle.elf.specs.Added.{one, eight}
-use Rattle.elf.specs.declared.Section as code
-use Rattle.elf.proofs.Places.{align_near}
 use Rattle.elf.specs.Headers.{headers_bytes}
 use Rattle.measure.specs.declared.Measuring.{Measuring}
-use Rattle.measure.specs.Measured.{with_section, plain_on, symtab_at, with_symbols, strtab_at, with_strings, shstrtab_at, tabled, Low}
+use Rattle.measure.specs.Measured.{with_section, plain_on, symtab_at, with_symbols, strtab_at, with_strings, shstrtab_at, Low}
 use Rattle.measure.proofs.Table.{Has, has_long, has_on, low_symtab, low_strings, low_more}
 use Rattle.measure.proofs.measure_tables.Goals as goal
 
 pub align_to-at-requires : goal.align_to-at-requires
 align_to-at-requires c = record {
-      alignment = eight;
-      align_bound = omega (arith, c.requires.low);
-    }
+  alignment = eight;
+  align_bound = omega (arith, c.requires.low);
+}
 
 pub add_plain-with_strings-requires : goal.add_plain-with_strings-requires
 add_plain-with_strings-requires c =

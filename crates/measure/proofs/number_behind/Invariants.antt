@@ -1,10 +1,7 @@
 -- `measure::number_behind` meets its contract. Assumes nothing.
-use mathlib.Core.Path.{◌≡◌, refl, sym, ◌∙◌, ap}
-use Prim.Native.Nat.{ℕ, ◌+◌, ◌-◌, ◌*◌, ◌≤◌, ◌<◌}
-use native.Mathlib.Omega.{arith}
-use lib.ListN.{length, take, drop, get_or}
-use borrow.Author.Rules.{rules}
-use Rattle.strtab.proofs.Rows.{program_from, program_end}
+use mathlib.Core.Path.{◌≡◌}
+use Prim.Native.Nat.{◌+◌, ◌-◌, ◌*◌, ◌≤◌}
+use lib.ListN.{length, take, drop}
 use Rattle.measure.specs.Measured.{behind_all}
 use Rattle.measure.proofs.number_behind.Given as goal
 

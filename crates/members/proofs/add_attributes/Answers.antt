@@ -1,15 +1,13 @@
 -- `members::add_attributes` meets its contract: four pieces. Assumes nothing.
-use mathlib.Core.Path.{◌≡◌, sym, ◌∙◌, ap}
-use mathlib.Core.List.{List, [], ◌++◌, append-nil}
+use mathlib.Core.Path.{sym, ◌∙◌, ap}
+use mathlib.Core.List.{append-nil}
 use Prim.Native.Nat.{ℕ}
 use native.Mathlib.Omega.{arith}
-use borrow.Author.Rules.{rules}
 use Rattle.octets.specs.Over.{over}
 use Rattle.ast.specs.Numbers.{map_type_number}
-use Rattle.ast.specs.declared.MapDecl.{MapDecl}
 use Rattle.btf.specs.declared.BtfBuilder.{BtfBuilder}
-use Rattle.members.specs.Attributes.{number_bytes, type_attr_bytes, type_attr_passed, count_attr_bytes, count_attr_passed, value_passed, attrs_bytes}
-use Rattle.members.proofs.Stages.{Stage, stage_begin, stage_as, stage_passed, stage_done}
+use Rattle.members.specs.Attributes.{number_bytes, type_attr_passed, count_attr_bytes, count_attr_passed, attrs_bytes}
+use Rattle.members.proofs.Stages.{stage_begin, stage_as, stage_done}
 use Rattle.members.proofs.Attributes.{stage_number, stage_type, stage_count}
 use Rattle.members.proofs.add_attributes.Goals as goal
 

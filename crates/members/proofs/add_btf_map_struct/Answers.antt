@@ -1,13 +1,8 @@
 -- `members::add_btf_map_struct` meets its contract. Assumes nothing.
 use mathlib.Core.Path.{◌∙◌, ap}
-use native.Mathlib.Omega.{arith}
-use lib.ListN.{length, length-append}
-use borrow.Author.Rules.{rules}
-use Rattle.octets.proofs.Laws.{over-length}
 use Rattle.btf.specs.declared.BtfBuilder.{BtfBuilder}
-use Rattle.members.specs.Attributes.{attrs_bytes, attrs_passed}
-use Rattle.members.specs.Members.{struct_bytes, struct_done}
-use Rattle.members.proofs.OneMap.{attrs_end, pieces_left}
+use Rattle.members.specs.Members.{struct_done}
+use Rattle.members.proofs.OneMap.{pieces_left}
 use Rattle.members.proofs.add_btf_map_struct.Goals as goal
 
 pub returns : goal.returns

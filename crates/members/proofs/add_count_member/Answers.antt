@@ -1,7 +1,6 @@
 -- `members::add_count_member` meets its contract. Assumes nothing.
 use mathlib.Core.Path.{refl}
-use borrow.Author.Rules.{rules}
-use Rattle.members.proofs.MemberRows.{count_made_absent, count_made, count_ahead}
+use Rattle.members.proofs.MemberRows.{count_made_absent}
 use Rattle.members.proofs.add_count_member.Goals as goal
 
 pub returns-in-Absent : goal.returns-in-Absent

@@ -1,8 +1,5 @@
 -- `members::add_map_struct` meets its contract. Assumes nothing.
-use native.Mathlib.Omega.{arith}
-use borrow.Author.Rules.{rules}
-use Rattle.members.proofs.MemberRows.{begun_ahead, struct_left, struct_answer}
-use Rattle.members.proofs.OneMap.{decl_room_lem}
+use Rattle.members.proofs.MemberRows.{struct_left, struct_answer}
 use Rattle.members.proofs.add_map_struct.Goals as goal
 
 pub returns : goal.returns

@@ -1,13 +1,12 @@
 -- `members::add_members` meets its contract. Assumes nothing.
-use mathlib.Core.Path.{◌≡◌, sym, ◌∙◌, ap}
+use mathlib.Core.Path.{sym, ◌∙◌, ap}
 use mathlib.Core.List.{List, [], ◌++◌, append-nil}
 use Prim.Native.Nat.{ℕ}
 use native.Mathlib.Omega.{arith}
-use borrow.Author.Rules.{rules}
 use Rattle.ast.specs.declared.MapDecl.{MapDecl}
 use Rattle.members.specs.declared.Members.{Members}
 use Rattle.members.specs.Members.{type_member, type_membered, count_member, count_membered, type_done, key_done, value_done, members_bytes}
-use Rattle.members.proofs.MemberRows.{Row, row_start, row_as, row_ahead, row_number, row_type, row_count, row_done}
+use Rattle.members.proofs.MemberRows.{row_start, row_as, row_number, row_type, row_count, row_done}
 use Rattle.members.proofs.add_members.Goals as goal
 
 -- what is still to come after the key, if the member before it left `s`, and after the type

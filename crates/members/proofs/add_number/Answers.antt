@@ -3,16 +3,13 @@ use mathlib.Core.Path.{refl, ◌∙◌, ap}
 use mathlib.Core.List.{[]}
 use Prim.Native.Nat.{◌+◌}
 use native.Mathlib.Omega.{arith}
-use lib.ListN.{length}
 use Rattle.octets.specs.Over.{over}
-use Rattle.octets.proofs.Laws.{over-length}
 use Rattle.octets.proofs.Filling.{over_two}
 use Rattle.btf.specs.declared.BtfBuilder.{BtfBuilder}
 use Rattle.btf.specs.Btf.{ptr, array, type_bytes}
 use Rattle.btf.specs.Maps.{int_id}
 use Rattle.btf.specs.Builder.{passed}
 use Rattle.members.proofs.Attributes.{passed_twice}
-use borrow.Author.Rules.{rules}
 use Rattle.members.proofs.add_number.Goals as goal
 
 pub returns : goal.returns

@@ -1,8 +1,7 @@
 -- `members::add_type_member` meets its contract. Assumes nothing.
 use mathlib.Core.Path.{refl}
 use Prim.Native.Nat.{◌+◌}
-use borrow.Author.Rules.{rules}
-use Rattle.members.proofs.MemberRows.{members_on_lem, type_made_absent, type_made, type_ahead, ahead_within}
+use Rattle.members.proofs.MemberRows.{type_made_absent}
 use Rattle.members.proofs.add_type_member.Goals as goal
 
 pub returns-in-Absent : goal.returns-in-Absent

@@ -1,11 +1,9 @@
 -- `named::decoded_size` meets its contract. Assumes nothing.
-use mathlib.Core.Path.{◌≡◌, ◌∙◌, ap}
+use mathlib.Core.Path.{◌∙◌, ap}
 use mathlib.Core.List.{List}
 use Prim.Native.Nat.{ℕ, ◌-◌}
 use native.Mathlib.Omega.{arith}
 use lib.ListN.{length, replicate, take, drop}
-use borrow.Author.Rules.{rules}
-use Rattle.octets.specs.Over.{over}
 use Rattle.utf8.specs.Utf8.{is_text}
 use Rattle.written.specs.Written.{written}
 use Rattle.object.specs.Read.{name_in}

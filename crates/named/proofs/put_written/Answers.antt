@@ -1,14 +1,11 @@
 -- `named::put_written` meets its contract: the written name and the zero byte are two pieces. Assumes nothing.
 use mathlib.Core.Path.{◌≡◌, refl, sym, ◌∙◌, ap}
-use mathlib.Core.Bool.{true}
-use mathlib.Core.List.{List, [], ◌∷◌, ◌++◌}
+use mathlib.Core.List.{List, [], ◌∷◌}
 use Prim.Native.Nat.{ℕ, ◌+◌, ◌-◌}
 use native.Mathlib.Omega.{arith}
 use lib.ListN.{length, replicate, take, drop, length-append}
-use borrow.Author.Rules.{rules}
 use borrow.Rule.Slice.PartMut.{mid_len}
 use Rattle.octets.specs.Octets.{zeros}
-use Rattle.octets.specs.Over.{over}
 use Rattle.octets.proofs.Laws.{over-length}
 use Rattle.octets.proofs.Filling.{over-part, over_two}
 use Rattle.utf8.specs.Utf8.{is_text}

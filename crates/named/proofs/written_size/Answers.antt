@@ -1,14 +1,9 @@
 -- `named::written_size` meets its contract. Assumes nothing.
-use mathlib.Core.Path.{◌≡◌, refl, sym, ◌∙◌, ap}
-use mathlib.Core.Bool.{true}
-use mathlib.Core.List.{List}
-use Prim.Native.Nat.{ℕ}
+use mathlib.Core.Path.{sym, ◌∙◌, ap}
 use native.Mathlib.Omega.{arith}
 use lib.ListN.{length}
-use borrow.Author.Rules.{rules}
 use Rattle.utf8.specs.Utf8.{all_ascii}
-use Rattle.written.specs.Written.{written}
-use Rattle.written.proofs.Ascii.{written-ascii, written_none, written_some}
+use Rattle.written.proofs.Ascii.{written-ascii, written_some}
 use Rattle.object.specs.Read.{name_in}
 use Rattle.object.proofs.Names.{part_hex, part_name, name_length}
 use Rattle.named.proofs.written_size.Goals as goal

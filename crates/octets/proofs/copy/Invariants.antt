@@ -1,11 +1,8 @@
 -- `octets::copy` meets its contract. Assumes nothing.
-use mathlib.Core.Path.{◌≡◌, refl}
+use mathlib.Core.Path.{◌≡◌}
 use mathlib.Core.List.{◌++◌}
 use Prim.Native.Nat.{◌≤◌, ◌-◌}
-use native.Mathlib.Omega.{arith}
-use lib.ListN.{length, take, drop, length-set}
-use borrow.Author.Rules.{rules}
-use Rattle.octets.proofs.Laws.{write_on, write_done, read_on, read_done}
+use lib.ListN.{length, take, drop}
 use Rattle.octets.proofs.copy.Given as goal
 
 abbrev pub invariant-loop-i : goal.invariant-loop-i

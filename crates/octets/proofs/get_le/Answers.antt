@@ -1,13 +1,7 @@
 -- `octets::get_le` meets its contract. Assumes nothing.
-use mathlib.Core.Path.{◌≡◌, sym, ◌∙◌, ap}
-use Prim.Native.Nat.{ℕ, ◌≤◌, ◌<◌, ◌-◌, ◌^◌}
+use Prim.Native.Nat.{◌-◌}
 use native.Mathlib.Omega.{arith}
-use native.Mathlib.Nat.{sub_self}
-use lib.Dec.{lit<}
-use lib.ListN.{length, drop, get_or}
-use lib.Seq.{drop-length}
-use borrow.Author.Rules.{rules}
-use Rattle.octets.specs.Octets.{value}
+use lib.ListN.{length, get_or}
 use Rattle.octets.proofs.Reading.{small, more, larger}
 use Rattle.octets.proofs.get_le.Goals as goal
 

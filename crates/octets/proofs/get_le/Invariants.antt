@@ -1,14 +1,8 @@
 -- `octets::get_le` meets its contract. Assumes nothing.
-use mathlib.Core.Path.{◌≡◌, sym, ◌∙◌, ap}
-use Prim.Native.Nat.{ℕ, ◌≤◌, ◌<◌, ◌-◌, ◌^◌}
-use native.Mathlib.Omega.{arith}
-use native.Mathlib.Nat.{sub_self}
-use lib.Dec.{lit<}
-use lib.ListN.{length, drop, get_or}
-use lib.Seq.{drop-length}
-use borrow.Author.Rules.{rules}
+use mathlib.Core.Path.{◌≡◌}
+use Prim.Native.Nat.{◌≤◌, ◌<◌, ◌-◌, ◌^◌}
+use lib.ListN.{length, drop}
 use Rattle.octets.specs.Octets.{value}
-use Rattle.octets.proofs.Reading.{small, more, larger}
 use Rattle.octets.proofs.get_le.Given as goal
 
 abbrev pub invariant-loop-i : goal.invariant-loop-i

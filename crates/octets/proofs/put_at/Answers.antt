@@ -1,5 +1,4 @@
 -- `octets::put_at` meets its contract. Assumes nothing.
-use borrow.Author.Rules.{rules}
 use Rattle.octets.proofs.Laws.{put-part}
 use Rattle.octets.proofs.put_at.Goals as goal
 

@@ -1,12 +1,11 @@
 -- `octets::put_fields` meets its contract. Assumes nothing.
-use mathlib.Core.Path.{◌≡◌, refl, sym, ◌∙◌, ap}
+use mathlib.Core.Path.{sym, ◌∙◌, ap}
 use mathlib.Core.List.{List, ◌++◌}
-use Prim.Native.Nat.{ℕ, ◌≤◌, ◌-◌, ◌+◌}
+use Prim.Native.Nat.{ℕ, ◌+◌}
 use native.Mathlib.Omega.{arith}
-use lib.ListN.{length, take, drop, get_or}
-use borrow.Author.Rules.{rules}
-use Rattle.octets.specs.Fields.{fields, total}
-use Rattle.octets.proofs.Laws.{total_on, field_on, read_done, write_done}
+use lib.ListN.{take, drop, get_or}
+use Rattle.octets.specs.Fields.{fields}
+use Rattle.octets.proofs.Laws.{total_on, field_on}
 use Rattle.octets.proofs.put_fields.Goals as goal
 
 pub loop-i-preserved : goal.loop-i-preserved

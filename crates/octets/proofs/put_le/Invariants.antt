@@ -1,13 +1,9 @@
 -- `octets::put_le` meets its contract. Assumes nothing.
-use mathlib.Core.Path.{◌≡◌, refl}
+use mathlib.Core.Path.{◌≡◌}
 use mathlib.Core.List.{◌++◌}
-use Prim.Native.Nat.{suc, ◌≤◌, ◌-◌, ◌+◌}
-use native.Mathlib.Omega.{arith}
-use native.Mathlib.Nat.{sub-zero}
-use lib.ListN.{length, take, length-set}
-use borrow.Author.Rules.{rules}
+use Prim.Native.Nat.{◌≤◌, ◌-◌}
+use lib.ListN.{length, take}
 use Rattle.octets.specs.Octets.{le}
-use Rattle.octets.proofs.Laws.{write_on, write_done}
 use Rattle.octets.proofs.put_le.Given as goal
 
 abbrev pub invariant-loop-i : goal.invariant-loop-i

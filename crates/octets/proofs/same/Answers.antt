@@ -1,11 +1,7 @@
 -- `octets::same` meets its contract. Assumes nothing.
-use mathlib.Core.Path.{◌≡◌, refl, sym, ◌∙◌}
-use Prim.Native.Nat.{◌≤◌, ◌-◌}
+use mathlib.Core.Path.{sym, ◌∙◌}
 use native.Mathlib.Omega.{arith}
-use lib.ListN.{length, drop}
-use borrow.Author.Rules.{rules}
-use Rattle.octets.specs.Octets.{equal}
-use Rattle.octets.proofs.Laws.{equal_differ, equal_next, equal-short, equal_end}
+use Rattle.octets.proofs.Laws.{equal-short, equal_end}
 use Rattle.octets.proofs.same.Goals as goal
 
 pub returns-then-b-i : goal.returns-then-b-i

@@ -1,16 +1,9 @@
 -- `sections::lay_strtab` meets its contract. Assumes nothing.
-use mathlib.Core.Path.{◌≡◌, refl, sym, ◌∙◌, ap}
-use mathlib.Core.List.{[], ◌∷◌, ◌++◌}
-use Prim.Native.Nat.{◌+◌, ◌-◌, ◌*◌, ◌≤◌}
-use native.Mathlib.Omega.{arith}
-use lib.ListN.{length, take, drop, length-append}
-use borrow.Author.Rules.{rules}
-use Rattle.elf.specs.Added.{one}
-use Rattle.sections.proofs.Laid.{fits_pad, fits_add, fits_after, fits_part, fits_lay}
+use Rattle.sections.proofs.Laid.{fits_after, fits_lay}
 use Rattle.sections.proofs.lay_strtab.Goals as goal
 
 pub returns : goal.returns
 returns c = record {
-      out_after = fits_lay c.requires.fits _ c.pad-at.ensures.value c.pad-at.ensures.out_after _ c.put_strtab.ensures;
-      value = fits_after c.requires.fits c.pad-at.ensures.value;
-    }
+  out_after = fits_lay c.requires.fits _ c.pad-at.ensures.value c.pad-at.ensures.out_after _ c.put_strtab.ensures;
+  value = fits_after c.requires.fits c.pad-at.ensures.value;
+}

@@ -1,13 +1,7 @@
 -- `sections::lay_symtab` meets its contract. Assumes nothing.
-use mathlib.Core.Path.{◌≡◌, refl, sym, ◌∙◌, ap}
-use mathlib.Core.List.{[], ◌∷◌, ◌++◌}
-use Prim.Native.Nat.{◌+◌, ◌-◌, ◌*◌, ◌≤◌}
-use native.Mathlib.Omega.{arith}
-use lib.ListN.{length, take, drop, length-append}
-use borrow.Author.Rules.{rules}
+use mathlib.Core.Path.{◌∙◌}
 use Rattle.strtab.proofs.Whole.{symtab_long}
-use Rattle.elf.specs.Added.{eight}
-use Rattle.sections.proofs.Laid.{fits_pad, fits_add, fits_after, fits_part, fits_lay}
+use Rattle.sections.proofs.Laid.{fits_after, fits_part, fits_lay}
 use Rattle.sections.proofs.lay_symtab.Goals as goal
 
 pub build_symtab-requires : goal.build_symtab-requires
@@ -22,6 +16,6 @@ build_symtab-requires c =
 
 pub returns : goal.returns
 returns c = record {
-      out_after = fits_lay c.requires.fits _ c.pad-at.ensures.value c.pad-at.ensures.out_after _ c.build_symtab.ensures;
-      value = fits_after c.requires.fits c.pad-at.ensures.value;
-    }
+  out_after = fits_lay c.requires.fits _ c.pad-at.ensures.value c.pad-at.ensures.out_after _ c.build_symtab.ensures;
+  value = fits_after c.requires.fits c.pad-at.ensures.value;
+}

@@ -1,13 +1,7 @@
 -- `sections::lay_zeros` meets its contract. Assumes nothing.
-use mathlib.Core.Path.{◌≡◌, refl, sym, ◌∙◌, ap}
-use mathlib.Core.List.{[], ◌∷◌, ◌++◌}
-use Prim.Native.Nat.{◌+◌, ◌-◌, ◌*◌, ◌≤◌}
-use native.Mathlib.Omega.{arith}
-use lib.ListN.{length, take, drop, length-append}
-use borrow.Author.Rules.{rules}
+use mathlib.Core.Path.{sym, ◌∙◌, ap}
 use Rattle.octets.specs.Octets.{zeros}
-use Rattle.elf.specs.Added.{eight}
-use Rattle.sections.proofs.Laid.{fits_pad, fits_add, fits_after, fits_part, fits_lay}
+use Rattle.sections.proofs.Laid.{fits_after, fits_part, fits_lay}
 use Rattle.sections.proofs.lay_zeros.Goals as goal
 
 pub returns : goal.returns

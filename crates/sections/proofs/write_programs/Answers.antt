@@ -3,7 +3,6 @@ use mathlib.Core.Path.{◌≡◌, ap}
 use Prim.Native.Nat.{ℕ}
 use native.Mathlib.Omega.{arith}
 use lib.ListN.{take}
-use borrow.Author.Rules.{rules}
 use Rattle.strtab.proofs.Whole.{programs_there}
 use Rattle.sections.specs.Pieces.{program_pieces}
 use Rattle.sections.proofs.Turns.{nothing_laid}

@@ -1,17 +1,15 @@
 -- `sections::write_sections` meets its contract: the licence, the maps' sections, the programs', the tables. Assumes nothing.
-use mathlib.Core.Path.{◌≡◌, refl, sym, ◌∙◌, ap, subst}
-use mathlib.Core.List.{List, [], ◌∷◌, ◌++◌}
-use Prim.Native.Nat.{ℕ, suc, ◌+◌, ◌-◌, ◌*◌, ◌≤◌, ◌<◌}
+use mathlib.Core.Path.{◌≡◌}
+use mathlib.Core.List.{[], ◌∷◌, ◌++◌}
+use Prim.Native.Nat.{◌+◌}
 use native.Mathlib.Omega.{arith}
-use lib.ListN.{length, take, drop, get_or, length-append}
-use borrow.Author.Rules.{rules}
-use Rattle.elf.specs.Elf.{Section}
+use lib.ListN.{length, take, length-append}
 use Rattle.elf.specs.Added.{one}
 use Rattle.object.specs.Read.{licence_in, declared_maps, job_in}
 use Rattle.measure.specs.Measured.{sections_of}
 use Rattle.measure.proofs.Whole.{aligned}
 use Rattle.sections.specs.Pieces.{map_pieces, program_pieces, table_pieces, all_pieces}
-use Rattle.sections.proofs.Turns.{Turn, turn_start, turn_fits, turn_on, turn_done, row_room, row_on}
+use Rattle.sections.proofs.Turns.{turn_start, turn_fits, turn_on, turn_done, row_room, row_on}
 use Rattle.sections.proofs.Alike.{alike_all, alike_aligned}
 use Rattle.sections.proofs.write_sections.Goals as goal
 

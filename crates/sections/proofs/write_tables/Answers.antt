@@ -1,17 +1,11 @@
 -- `sections::write_tables` meets its contract. Assumes nothing.
-use mathlib.Core.Path.{◌≡◌, refl, sym, ◌∙◌, ap, subst}
-use mathlib.Core.List.{List, [], ◌∷◌, ◌++◌}
-use Prim.Native.Nat.{ℕ, suc, ◌+◌, ◌-◌, ◌*◌, ◌≤◌, ◌<◌}
+use mathlib.Core.Path.{sym}
 use native.Mathlib.Omega.{arith}
-use lib.ListN.{length}
-use borrow.Author.Rules.{rules}
 use Rattle.object.specs.Read.{job_in}
 use Rattle.elf.specs.Added.{one, eight}
-use Rattle.strtab.specs.Rows.{strtab_of}
 use Rattle.strtab.proofs.Whole.{symtab_long}
-use Rattle.headers.specs.Names.{shstrtab_of}
-use Rattle.sections.specs.Pieces.{bare, table_pieces}
-use Rattle.sections.proofs.Turns.{Turn, turn_start, turn_fits, turn_on, turn_done}
+use Rattle.sections.specs.Pieces.{table_pieces}
+use Rattle.sections.proofs.Turns.{turn_start, turn_fits, turn_on, turn_done}
 use Rattle.sections.proofs.write_tables.Goals as goal
 
 pub lay_symtab-first-requires : goal.lay_symtab-first-requires

@@ -1,8 +1,6 @@
 -- `spans::btf_size` meets its contract. Assumes nothing.
-use Prim.Native.Nat.{◌-◌}
 use native.Mathlib.Omega.{arith}
-use borrow.Author.Rules.{rules}
-use Rattle.spans.proofs.Sizes.{SizeTurn, size_start, size_on, size_done}
+use Rattle.spans.proofs.Sizes.{size_start, size_on, size_done}
 use Rattle.spans.proofs.btf_size.Goals as goal
 
 pub loop-i-init : goal.loop-i-init

@@ -1,8 +1,6 @@
 -- `spans::btf_size` meets its contract. Assumes nothing.
 use Prim.Native.Nat.{◌-◌}
-use native.Mathlib.Omega.{arith}
-use borrow.Author.Rules.{rules}
-use Rattle.spans.proofs.Sizes.{SizeTurn, size_start, size_on, size_done}
+use Rattle.spans.proofs.Sizes.{SizeTurn}
 use Rattle.spans.proofs.btf_size.Given as goal
 
 abbrev pub invariant-loop-i : goal.invariant-loop-i

@@ -1,13 +1,8 @@
 -- `spans::maps_size` meets its contract. Assumes nothing.
 use mathlib.Core.Path.{◌≡◌}
 use Prim.Native.Nat.{◌+◌, ◌-◌, ◌*◌, ◌≤◌}
-use native.Mathlib.Omega.{arith}
-use lib.ListN.{length, take, drop, get_or}
-use borrow.Author.Rules.{rules}
-use Rattle.object.specs.Tables.{no_map}
+use lib.ListN.{length, take, drop}
 use Rattle.members.specs.Section.{rooms_of}
-use Rattle.members.proofs.OneMap.{decl_room_lem}
-use Rattle.spans.proofs.Decls.{rooms_on, rooms_end}
 use Rattle.spans.proofs.maps_size.Given as goal
 
 abbrev pub invariant-loop-i : goal.invariant-loop-i

@@ -2,9 +2,8 @@
 use mathlib.Core.Path.{sym}
 use mathlib.Core.List.{List, [], ◌∷◌, ◌++◌, append-nil}
 use Prim.Native.Nat.{ℕ}
-use borrow.Author.Rules.{rules}
 use Rattle.octets.specs.Octets.{ascii}
-use Rattle.octets.proofs.Going.{Going, go_start, go_as, go_room, go_on, go_done}
+use Rattle.octets.proofs.Going.{go_start, go_as, go_on, go_done}
 use Rattle.ast.specs.declared.MapDecl.{MapDecl}
 use Rattle.members.specs.Strings.{type_name, count_name, attr_names}
 use Rattle.strings.proofs.put_attribute_names.Goals as goal

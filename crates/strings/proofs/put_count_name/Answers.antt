@@ -1,8 +1,6 @@
 -- `strings::put_count_name` meets its contract. Assumes nothing.
 use mathlib.Core.Path.{refl}
-use native.Mathlib.Omega.{arith}
-use borrow.Author.Rules.{rules}
-use Rattle.spans.proofs.StringRows.{count_name_absent, count_name_present, count_name_room}
+use Rattle.spans.proofs.StringRows.{count_name_absent, count_name_present}
 use Rattle.strings.proofs.put_count_name.Goals as goal
 
 pub returns-in-Absent : goal.returns-in-Absent

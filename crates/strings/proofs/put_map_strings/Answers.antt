@@ -2,10 +2,7 @@
 use mathlib.Core.Path.{sym}
 use mathlib.Core.List.{List, [], ◌∷◌, ◌++◌, append-nil}
 use Prim.Native.Nat.{ℕ}
-use native.Mathlib.Omega.{arith}
-use lib.ListN.{length-append}
-use borrow.Author.Rules.{rules}
-use Rattle.octets.proofs.Going.{Going, go_start, go_as, go_room, go_on, go_done}
+use Rattle.octets.proofs.Going.{go_start, go_as, go_on, go_done}
 use Rattle.written.specs.Written.{written}
 use Rattle.ast.specs.declared.MapDecl.{MapDecl}
 use Rattle.object.specs.Read.{name_in}

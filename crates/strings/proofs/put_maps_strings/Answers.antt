@@ -1,8 +1,6 @@
 -- `strings::put_maps_strings` meets its contract. Assumes nothing.
-use Prim.Native.Nat.{◌-◌}
 use native.Mathlib.Omega.{arith}
-use borrow.Author.Rules.{rules}
-use Rattle.spans.proofs.StringRows.{StringsTurn, strings-start, strings_room, strings_on, strings-done}
+use Rattle.spans.proofs.StringRows.{strings_room, strings_on, strings-done}
 use Rattle.strings.proofs.put_maps_strings.Goals as goal
 
 pub put_map_strings-place-requires : goal.put_map_strings-place-requires
@@ -19,6 +17,6 @@ loop-i-preserved c =
 
 pub returns : goal.returns
 returns c = let both = strings-done _ _ _ _ _ c.loop-i.invariant (omega arith) in record {
-      out_after = both.0;
-      value = both.1;
-    }
+  out_after = both.0;
+  value = both.1;
+}

@@ -1,8 +1,6 @@
 -- `strings::put_maps_strings` meets its contract. Assumes nothing.
 use Prim.Native.Nat.{◌-◌}
-use native.Mathlib.Omega.{arith}
-use borrow.Author.Rules.{rules}
-use Rattle.spans.proofs.StringRows.{StringsTurn, strings-start, strings_room, strings_on, strings-done}
+use Rattle.spans.proofs.StringRows.{StringsTurn}
 use Rattle.strings.proofs.put_maps_strings.Given as goal
 
 abbrev pub invariant-loop-i : goal.invariant-loop-i

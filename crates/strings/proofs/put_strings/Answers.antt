@@ -1,8 +1,6 @@
 -- `strings::put_strings` meets its contract: three pieces. Assumes nothing.
-use native.Mathlib.Omega.{arith}
-use borrow.Author.Rules.{rules}
 use Rattle.members.specs.Section.{the_maps}
-use Rattle.spans.proofs.StringRows.{names_room, last_room, table_left}
+use Rattle.spans.proofs.StringRows.{table_left}
 use Rattle.strings.proofs.put_strings.Goals as goal
 
 pub returns : goal.returns

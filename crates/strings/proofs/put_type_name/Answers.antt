@@ -1,7 +1,6 @@
 -- `strings::put_type_name` meets its contract. Assumes nothing.
 use mathlib.Core.Path.{refl}
-use borrow.Author.Rules.{rules}
-use Rattle.spans.proofs.StringRows.{name_absent, name_present, name_room}
+use Rattle.spans.proofs.StringRows.{name_absent}
 use Rattle.strings.proofs.put_type_name.Goals as goal
 
 pub returns-in-Absent : goal.returns-in-Absent

@@ -1,13 +1,7 @@
 -- `strtab::map_names_size` meets its contract. Assumes nothing.
-use mathlib.Core.Path.{◌≡◌, refl, sym, ◌∙◌, ap}
-use mathlib.Core.List.{List, [], ◌∷◌, ◌++◌}
-use Prim.Native.Nat.{ℕ, ◌+◌, ◌-◌, ◌*◌, ◌≤◌, ◌<◌}
+use mathlib.Core.Path.{ap}
 use native.Mathlib.Omega.{arith}
-use lib.ListN.{length, take, drop, get_or}
-use borrow.Author.Rules.{rules}
 use Rattle.elf.specs.Row.{size_of}
-use Rattle.named.specs.There.{NamesThere}
-use Rattle.strtab.specs.Rows.{names_in}
 use Rattle.strtab.proofs.Rows.{name_from, name_end}
 use Rattle.strtab.proofs.map_names_size.Goals as goal
 

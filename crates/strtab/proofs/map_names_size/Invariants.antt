@@ -1,14 +1,10 @@
 -- `strtab::map_names_size` meets its contract. Assumes nothing.
-use mathlib.Core.Path.{◌≡◌, refl, sym, ◌∙◌, ap}
-use mathlib.Core.List.{List, [], ◌∷◌, ◌++◌}
-use Prim.Native.Nat.{ℕ, ◌+◌, ◌-◌, ◌*◌, ◌≤◌, ◌<◌}
-use native.Mathlib.Omega.{arith}
-use lib.ListN.{length, take, drop, get_or}
-use borrow.Author.Rules.{rules}
+use mathlib.Core.Path.{◌≡◌}
+use Prim.Native.Nat.{◌+◌, ◌-◌, ◌*◌, ◌≤◌}
+use lib.ListN.{take, drop}
 use Rattle.elf.specs.Row.{size_of}
 use Rattle.named.specs.There.{NamesThere}
 use Rattle.strtab.specs.Rows.{names_in}
-use Rattle.strtab.proofs.Rows.{name_from, name_end}
 use Rattle.strtab.proofs.map_names_size.Given as goal
 
 abbrev pub invariant-loop-i : goal.invariant-loop-i

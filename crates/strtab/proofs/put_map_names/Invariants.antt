@@ -1,17 +1,11 @@
 -- `strtab::put_map_names` meets its contract. Assumes nothing.
-use mathlib.Core.Path.{◌≡◌, refl, sym, ◌∙◌, ap}
-use mathlib.Core.List.{List, [], ◌∷◌, ◌++◌}
-use Prim.Native.Nat.{ℕ, ◌+◌, ◌-◌, ◌*◌, ◌≤◌, ◌<◌}
-use native.Mathlib.Omega.{arith}
-use lib.ListN.{length, take, drop, get_or}
-use borrow.Author.Rules.{rules}
-use Rattle.octets.proofs.Going.{Going, go_start}
-use Rattle.written.specs.Written.{written}
+use mathlib.Core.Path.{◌≡◌}
+use Prim.Native.Nat.{◌-◌, ◌≤◌}
+use lib.ListN.{length, take, drop}
+use Rattle.octets.proofs.Going.{Going}
 use Rattle.elf.specs.Row.{joined}
-use Rattle.object.specs.Read.{bytes_at}
 use Rattle.named.specs.There.{NamesThere}
 use Rattle.strtab.specs.Rows.{names_in}
-use Rattle.strtab.proofs.Rows.{names_on, names_room, names_done, name_from, name_end}
 use Rattle.strtab.proofs.put_map_names.Given as goal
 
 abbrev pub invariant-loop-i : goal.invariant-loop-i

@@ -1,14 +1,8 @@
 -- `strtab::put_program_names` meets its contract. Assumes nothing.
-use mathlib.Core.Path.{◌≡◌, refl, sym, ◌∙◌, ap}
-use mathlib.Core.List.{List, [], ◌∷◌, ◌++◌}
-use Prim.Native.Nat.{ℕ, ◌+◌, ◌-◌, ◌*◌, ◌≤◌, ◌<◌}
 use native.Mathlib.Omega.{arith}
-use lib.ListN.{length, take, drop, get_or}
-use borrow.Author.Rules.{rules}
-use Rattle.octets.proofs.Going.{Going, go_start}
-use Rattle.elf.specs.Row.{joined}
+use lib.ListN.{take}
 use Rattle.named.proofs.There.{kept_program}
-use Rattle.strtab.specs.Rows.{program_names, ProgramsThere}
+use Rattle.strtab.specs.Rows.{program_names}
 use Rattle.strtab.proofs.Rows.{names_on, names_room, names_done, program_name_from, program_name_end}
 use Rattle.strtab.proofs.put_program_names.Goals as goal
 

@@ -1,15 +1,10 @@
 -- `strtab::put_program_names` meets its contract. Assumes nothing.
-use mathlib.Core.Path.{◌≡◌, refl, sym, ◌∙◌, ap}
-use mathlib.Core.List.{List, [], ◌∷◌, ◌++◌}
-use Prim.Native.Nat.{ℕ, ◌+◌, ◌-◌, ◌*◌, ◌≤◌, ◌<◌}
-use native.Mathlib.Omega.{arith}
-use lib.ListN.{length, take, drop, get_or}
-use borrow.Author.Rules.{rules}
-use Rattle.octets.proofs.Going.{Going, go_start}
+use mathlib.Core.Path.{◌≡◌}
+use Prim.Native.Nat.{◌-◌, ◌≤◌}
+use lib.ListN.{length, take, drop}
+use Rattle.octets.proofs.Going.{Going}
 use Rattle.elf.specs.Row.{joined}
-use Rattle.named.proofs.There.{kept_program}
 use Rattle.strtab.specs.Rows.{program_names, ProgramsThere}
-use Rattle.strtab.proofs.Rows.{names_on, names_room, names_done, program_name_from, program_name_end}
 use Rattle.strtab.proofs.put_program_names.Given as goal
 
 abbrev pub invariant-loop-i : goal.invariant-loop-i

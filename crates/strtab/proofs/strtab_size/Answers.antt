@@ -1,12 +1,7 @@
 -- `strtab::strtab_size` meets its contract. Assumes nothing.
-use mathlib.Core.Path.{◌≡◌, refl, sym, ◌∙◌, ap}
-use mathlib.Core.List.{List, [], ◌∷◌, ◌++◌}
-use Prim.Native.Nat.{ℕ, ◌+◌, ◌-◌, ◌*◌, ◌≤◌, ◌<◌}
+use mathlib.Core.Path.{◌∙◌, ap}
 use native.Mathlib.Omega.{arith}
-use lib.ListN.{length, take, drop, get_or}
-use borrow.Author.Rules.{rules}
 use Rattle.elf.specs.Row.{size_of}
-use Rattle.named.proofs.There.{lent_maps}
 use Rattle.strtab.proofs.Whole.{strtab_long, programs_there, lent_same}
 use Rattle.strtab.proofs.strtab_size.Goals as goal
 

@@ -1,16 +1,9 @@
 -- `symbols::build_symtab` meets its contract: four pieces. Assumes nothing.
-use mathlib.Core.Path.{◌≡◌, refl, sym, ◌∙◌, ap}
-use mathlib.Core.List.{List, [], ◌∷◌, ◌++◌}
-use Prim.Native.Nat.{ℕ, ◌+◌, ◌-◌, ◌*◌, ◌≤◌, ◌<◌}
+use mathlib.Core.Path.{sym, ◌∙◌, ap}
 use native.Mathlib.Omega.{arith}
-use lib.ListN.{length, take, drop, get_or}
-use borrow.Author.Rules.{rules}
-use borrow.Rule.Slice.PartMut.{mid_len}
 use Rattle.elf.specs.Elf.{entry_bytes}
 use Rattle.elf.specs.Entries.{entry_of}
 use Rattle.elf.specs.declared.Symbol.{Symbol}
-use Rattle.strtab.specs.Rows.{row_at, program_row, first_of}
-use Rattle.named.proofs.There.{lent_maps}
 use Rattle.strtab.proofs.Whole.{lent_row, symtab_long, programs_there, symbols_null, symbols_licence, symbols-mapped, symbols-programmed}
 use Rattle.symbols.proofs.build_symtab.Goals as goal
 

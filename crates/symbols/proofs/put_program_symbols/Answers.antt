@@ -1,16 +1,12 @@
 -- `symbols::put_program_symbols` meets its contract. Assumes nothing.
-use mathlib.Core.Path.{◌≡◌, refl, sym, ◌∙◌, ap}
-use mathlib.Core.List.{List, [], ◌∷◌, ◌++◌}
-use Prim.Native.Nat.{ℕ, ◌+◌, ◌-◌, ◌*◌, ◌≤◌, ◌<◌}
+use mathlib.Core.Path.{refl}
+use Prim.Native.Nat.{◌+◌}
 use native.Mathlib.Omega.{arith}
-use lib.ListN.{length, take, drop, get_or}
-use borrow.Author.Rules.{rules}
-use borrow.Rule.Slice.PartMut.{mid_len}
+use lib.ListN.{get_or}
 use Rattle.octets.proofs.Filling.{over-part}
 use Rattle.object.specs.Tables.{no_program}
 use Rattle.named.proofs.There.{kept_program}
-use Rattle.strtab.specs.Rows.{ProgramsThere}
-use Rattle.strtab.proofs.Rows.{ProgramTurn, program_start, program_on, program_done, program_here}
+use Rattle.strtab.proofs.Rows.{program_start, program_on, program_done, program_here}
 use Rattle.symbols.proofs.put_program_symbols.Goals as goal
 
 pub loop-i-init : goal.loop-i-init

@@ -1,11 +1,6 @@
 -- `types::add_entries` meets its contract. Assumes nothing.
 use Prim.Native.Nat.{◌-◌}
-use native.Mathlib.Omega.{arith}
-use lib.ListN.{get_or}
-use borrow.Author.Rules.{rules}
-use Rattle.object.specs.Tables.{no_map}
-use Rattle.members.proofs.OneMap.{decl_room_lem}
-use Rattle.spans.proofs.Decls.{EntriesTurn, entries_start, entry_room, entries_on, entries_done}
+use Rattle.spans.proofs.Decls.{EntriesTurn}
 use Rattle.types.proofs.add_entries.Given as goal
 
 abbrev pub invariant-loop-i : goal.invariant-loop-i

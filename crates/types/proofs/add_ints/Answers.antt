@@ -1,13 +1,11 @@
 -- `types::add_ints` meets its contract: five pieces. Assumes nothing.
 use mathlib.Core.List.{List, [], ◌++◌}
 use Prim.Native.Nat.{ℕ}
-use native.Mathlib.Omega.{arith}
-use borrow.Author.Rules.{rules}
 use Rattle.octets.proofs.Going.{go_start, go_done}
 use Rattle.btf.specs.declared.BtfBuilder.{BtfBuilder}
 use Rattle.btf.specs.Maps.{int_types}
 use Rattle.btf.specs.Builder.{new_builder, bytes_at}
-use Rattle.types.proofs.Ints.{int_piece, Known, int_room, int_on}
+use Rattle.types.proofs.Ints.{int_piece, Known, int_on}
 use Rattle.types.proofs.add_ints.Goals as goal
 
 -- the builder after `k` ints, and what is still to come

@@ -1,13 +1,9 @@
 -- `types::add_map` meets its contract. Assumes nothing.
-use mathlib.Core.Path.{◌≡◌, ◌∙◌, ap}
+use mathlib.Core.Path.{ap}
 use Prim.Native.Nat.{◌-◌}
 use native.Mathlib.Omega.{arith}
-use lib.ListN.{length}
-use borrow.Author.Rules.{rules}
-use Rattle.octets.proofs.Laws.{over-length}
 use Rattle.object.specs.Read.{name_in}
 use Rattle.btf.specs.declared.BtfBuilder.{BtfBuilder}
-use Rattle.members.specs.Members.{map_pieces, struct_end}
 use Rattle.members.proofs.OneMap.{map_length, struct_end_lem, map_done, map_left}
 use Rattle.types.proofs.add_map.Goals as goal
 

@@ -1,8 +1,6 @@
 -- `types::add_maps` meets its contract. Assumes nothing.
-use Prim.Native.Nat.{◌-◌}
 use native.Mathlib.Omega.{arith}
-use borrow.Author.Rules.{rules}
-use Rattle.spans.proofs.TypeRows.{TypesTurn, types_start, types_room, types_on, types_done}
+use Rattle.spans.proofs.TypeRows.{types_room, types_on, types_done}
 use Rattle.types.proofs.add_maps.Goals as goal
 
 pub add_map-next-requires : goal.add_map-next-requires

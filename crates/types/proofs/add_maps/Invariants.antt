@@ -1,8 +1,6 @@
 -- `types::add_maps` meets its contract. Assumes nothing.
 use Prim.Native.Nat.{◌-◌}
-use native.Mathlib.Omega.{arith}
-use borrow.Author.Rules.{rules}
-use Rattle.spans.proofs.TypeRows.{TypesTurn, types_start, types_room, types_on, types_done}
+use Rattle.spans.proofs.TypeRows.{TypesTurn}
 use Rattle.types.proofs.add_maps.Given as goal
 
 abbrev pub invariant-loop-i : goal.invariant-loop-i

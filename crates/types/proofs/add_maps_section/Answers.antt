@@ -1,12 +1,10 @@
 -- `types::add_maps_section` meets its contract: the section's head and its entries. Assumes nothing.
-use mathlib.Core.Path.{◌≡◌, refl, ◌∙◌, ap}
+use mathlib.Core.Path.{refl, ◌∙◌, ap}
 use mathlib.Core.List.{[], ◌∷◌}
 use Prim.Native.Nat.{◌+◌}
 use native.Mathlib.Omega.{arith}
-use lib.ListN.{length, take}
-use borrow.Author.Rules.{rules}
+use lib.ListN.{take}
 use Rattle.octets.specs.Over.{over}
-use Rattle.octets.proofs.Laws.{over-length}
 use Rattle.octets.proofs.Filling.{over_two}
 use Rattle.btf.specs.declared.BtfBuilder.{BtfBuilder}
 use Rattle.btf.specs.Btf.{info}

@@ -1,17 +1,12 @@
 -- `types::build_btf` meets its contract: three parts. Assumes nothing.
-use mathlib.Core.Path.{◌≡◌, sym, ◌∙◌, ap}
-use mathlib.Core.List.{List}
-use Prim.Native.Nat.{ℕ, ◌+◌}
-use native.Mathlib.Omega.{arith}
+use mathlib.Core.Path.{sym, ◌∙◌, ap}
 use lib.ListN.{length}
-use borrow.Author.Rules.{rules}
-use Rattle.ast.specs.Job.{Map}
 use Rattle.btf.specs.Maps.{btf_types}
 use Rattle.btf.specs.Builder.{bytes_at}
 use Rattle.btf.proofs.Builder.{types_built}
 use Rattle.members.specs.Section.{the_maps}
 use Rattle.members.specs.Strings.{all_strings}
-use Rattle.types.proofs.Whole.{section, section_is, parts_long, head_long, types_part, strings-part, section_left}
+use Rattle.types.proofs.Whole.{section_is, types_part, strings-part, section_left}
 use Rattle.types.proofs.build_btf.Goals as goal
 
 pub put_types-requires : goal.put_types-requires

@@ -1,6 +1,5 @@
 -- `types::put_types` meets its contract: three pieces. Assumes nothing.
-use borrow.Author.Rules.{rules}
-use Rattle.spans.proofs.AllTypes.{ints_room, maps_room, section_room, types_left}
+use Rattle.spans.proofs.AllTypes.{maps_room, section_room, types_left}
 use Rattle.types.proofs.put_types.Goals as goal
 
 pub add_maps-done-requires : goal.add_maps-done-requires

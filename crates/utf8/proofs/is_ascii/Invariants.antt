@@ -1,15 +1,11 @@
 -- `utf8::is_ascii` meets its contract. Assumes nothing.
-use mathlib.Core.Path.{◌≡◌, refl, sym, ◌∙◌, ap}
-use mathlib.Core.Bool.{Bool, cond, ◌&&◌}
+use mathlib.Core.Path.{◌≡◌}
+use mathlib.Core.Bool.{◌&&◌}
 use Prim.Native.Nat.{◌≤◌, ◌-◌}
-use native.Mathlib.Omega.{arith}
 use lib.Dec.{eqb}
 use lib.ListN.{length, drop}
-use borrow.Author.Rules.{rules}
 use Rattle.lines.specs.Hex.{bytes_in}
-use Rattle.lines.proofs.Bytes.{bytes_length}
 use Rattle.utf8.specs.Utf8.{all_ascii}
-use Rattle.utf8.proofs.Ascii.{ascii_on, ascii-done, first-digit}
 use Rattle.utf8.proofs.is_ascii.Given as goal
 
 abbrev pub invariant-loop-i : goal.invariant-loop-i

@@ -1,14 +1,11 @@
 -- `utf8::is_utf8` meets its contract. Assumes nothing.
-use mathlib.Core.Path.{◌≡◌, sym, ◌∙◌, ap}
-use Prim.Native.Nat.{◌≤◌, ◌-◌, ◌+◌}
+use mathlib.Core.Path.{◌∙◌}
 use native.Mathlib.Omega.{arith}
-use lib.ListN.{length, drop}
 use borrow.Author.Rules.{rules}
 use Rattle.lines.specs.Hex.{bytes_in}
 use Rattle.lines.proofs.Bytes.{bytes_length}
-use Rattle.utf8.specs.Utf8.{is_text, points_from}
-use Rattle.utf8.specs.Wait.{wait_of, Fine}
-use Rattle.utf8.proofs.Laws.{took_any, took_none, ended, idled, ok, ok_if, fine_idle}
+use Rattle.utf8.specs.Wait.{wait_of}
+use Rattle.utf8.proofs.Laws.{took_any, idled, ok, fine_idle}
 use Rattle.utf8.proofs.is_utf8.Goals as goal
 
 pub loop-i-init : goal.loop-i-init

@@ -1,14 +1,11 @@
 -- `utf8::is_utf8` meets its contract. Assumes nothing.
-use mathlib.Core.Path.{◌≡◌, sym, ◌∙◌, ap}
-use Prim.Native.Nat.{◌≤◌, ◌-◌, ◌+◌}
-use native.Mathlib.Omega.{arith}
+use mathlib.Core.Path.{◌≡◌}
+use Prim.Native.Nat.{◌≤◌, ◌-◌}
 use lib.ListN.{length, drop}
-use borrow.Author.Rules.{rules}
 use Rattle.lines.specs.Hex.{bytes_in}
-use Rattle.lines.proofs.Bytes.{bytes_length}
 use Rattle.utf8.specs.Utf8.{is_text, points_from}
 use Rattle.utf8.specs.Wait.{wait_of, Fine}
-use Rattle.utf8.proofs.Laws.{took_any, took_none, ended, idled, ok, ok_if, fine_idle}
+use Rattle.utf8.proofs.Laws.{ok}
 use Rattle.utf8.proofs.is_utf8.Given as goal
 
 abbrev pub invariant-loop-i : goal.invariant-loop-i

@@ -1,13 +1,7 @@
 -- `written::is_ascii` meets its contract. Assumes nothing.
-use mathlib.Core.Path.{◌≡◌, refl, sym, ◌∙◌}
-use mathlib.Core.Bool.{◌&&◌}
-use Prim.Native.Nat.{◌-◌}
+use mathlib.Core.Path.{◌∙◌}
 use native.Mathlib.Omega.{arith}
-use lib.Dec.{eqb}
-use lib.ListN.{length, drop}
-use borrow.Author.Rules.{rules}
-use Rattle.utf8.specs.Utf8.{all_ascii}
-use Rattle.utf8.proofs.Ascii.{ascii_on, ascii-done}
+use Rattle.utf8.proofs.Ascii.{ascii_on}
 use Rattle.written.proofs.is_ascii.Goals as goal
 
 pub loop-i-preserved : goal.loop-i-preserved

@@ -1,17 +1,12 @@
 -- `written::points_len` meets its contract. Assumes nothing.
-use mathlib.Core.Path.{◌≡◌, sym, ◌∙◌, ap, refl}
-use mathlib.Core.Bool.{true}
-use mathlib.Core.Option.{some}
-use mathlib.Core.List.{[]}
-use Prim.Native.Nat.{◌≤◌, ◌-◌, ◌+◌}
+use mathlib.Core.Path.{sym, ◌∙◌, ap, refl}
+use Prim.Native.Nat.{◌+◌}
 use native.Mathlib.Omega.{arith}
-use lib.ListN.{length, drop}
-use borrow.Author.Rules.{rules}
+use lib.ListN.{drop}
 use Rattle.utf8.specs.Utf8.{points_from}
-use Rattle.utf8.specs.Wait.{wait_of, Fine}
-use Rattle.utf8.proofs.Laws.{took_any, took_point, took_more, took_none, ended_ok, idled, fine_idle, ok, not_bad, ok_start}
-use Rattle.written.specs.Written.{written}
-use Rattle.written.proofs.Chars.{len_of, len_start, len_on, len_end}
+use Rattle.utf8.specs.Wait.{wait_of}
+use Rattle.utf8.proofs.Laws.{took_any, took_point, took_more, ok}
+use Rattle.written.proofs.Chars.{len_of, len_on}
 use Rattle.written.proofs.points_len.Goals as goal
 
 pub loop-i-preserved-in-Point : goal.loop-i-preserved-in-Point

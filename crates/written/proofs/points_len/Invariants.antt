@@ -1,17 +1,13 @@
 -- `written::points_len` meets its contract. Assumes nothing.
-use mathlib.Core.Path.{◌≡◌, sym, ◌∙◌, ap, refl}
+use mathlib.Core.Path.{◌≡◌}
 use mathlib.Core.Bool.{true}
-use mathlib.Core.Option.{some}
-use mathlib.Core.List.{[]}
-use Prim.Native.Nat.{◌≤◌, ◌-◌, ◌+◌}
-use native.Mathlib.Omega.{arith}
+use Prim.Native.Nat.{◌≤◌, ◌-◌}
 use lib.ListN.{length, drop}
-use borrow.Author.Rules.{rules}
 use Rattle.utf8.specs.Utf8.{points_from}
 use Rattle.utf8.specs.Wait.{wait_of, Fine}
-use Rattle.utf8.proofs.Laws.{took_any, took_point, took_more, took_none, ended_ok, idled, fine_idle, ok, not_bad, ok_start}
+use Rattle.utf8.proofs.Laws.{ok}
 use Rattle.written.specs.Written.{written}
-use Rattle.written.proofs.Chars.{len_of, len_start, len_on, len_end}
+use Rattle.written.proofs.Chars.{len_of}
 use Rattle.written.proofs.points_len.Given as goal
 
 abbrev pub invariant-loop-i : goal.invariant-loop-i

@@ -1,9 +1,7 @@
 -- `written::put_ascii` meets its contract. Assumes nothing.
-use mathlib.Core.Path.{sym, ◌∙◌, ap}
+use mathlib.Core.Path.{◌∙◌}
 use native.Mathlib.Omega.{arith}
-use lib.ListN.{length}
-use borrow.Author.Rules.{rules}
-use Rattle.written.proofs.Ascii.{written_none, written_some}
+use Rattle.written.proofs.Ascii.{written_some}
 use Rattle.written.proofs.put_ascii.Goals as goal
 
 pub put_later-requires : goal.put_later-requires

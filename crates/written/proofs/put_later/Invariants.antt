@@ -1,13 +1,9 @@
 -- `written::put_later` meets its contract. Assumes nothing.
-use mathlib.Core.Path.{◌≡◌, refl, sym, ◌∙◌, ap}
-use mathlib.Core.List.{◌∷◌, ◌++◌}
-use Prim.Native.Nat.{ℕ, ◌+◌, ◌≤◌, ◌<◌, ◌-◌}
-use native.Mathlib.Omega.{arith}
-use lib.ListN.{length, take, drop, length-set}
-use borrow.Author.Rules.{rules}
-use Rattle.octets.proofs.Laws.{write_on, write_done, read_done}
+use mathlib.Core.Path.{◌≡◌}
+use mathlib.Core.List.{◌++◌}
+use Prim.Native.Nat.{◌≤◌, ◌<◌, ◌-◌}
+use lib.ListN.{length, take, drop}
 use Rattle.written.specs.Written.{rest_written}
-use Rattle.written.proofs.Ascii.{later_on, first_anew}
 use Rattle.written.proofs.put_later.Given as goal
 
 abbrev pub invariant-loop-i : goal.invariant-loop-i

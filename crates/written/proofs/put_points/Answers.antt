@@ -1,19 +1,16 @@
 -- `written::put_points` meets its contract. Assumes nothing.
-use mathlib.Core.Path.{◌≡◌, refl, sym, ◌∙◌, ap}
-use mathlib.Core.Bool.{true}
-use mathlib.Core.List.{List, [], ◌∷◌, ◌++◌}
-use mathlib.Core.Option.{some}
-use Prim.Native.Nat.{ℕ, suc, ◌≤◌, ◌-◌, ◌+◌}
+use mathlib.Core.Path.{refl, sym, ◌∙◌, ap}
+use mathlib.Core.List.{◌∷◌}
+use Prim.Native.Nat.{ℕ, ◌+◌}
 use native.Mathlib.Omega.{arith}
-use lib.ListN.{length, drop, take, length-set}
-use borrow.Author.Rules.{rules}
-use Rattle.utf8.specs.Utf8.{put, points_from}
+use lib.ListN.{drop, length-set}
+use Rattle.utf8.specs.Utf8.{points_from}
 use Rattle.written.specs.Written.{written}
-use Rattle.octets.proofs.Laws.{write_on, write_done}
-use Rattle.utf8.specs.Wait.{wait_of, Fine}
-use Rattle.written.specs.Name.{char_at, rest_of}
-use Rattle.utf8.proofs.Laws.{took_point, took_more, took_none, ended_ok, idled, fine_idle, ok, not_bad, ok_start}
-use Rattle.written.proofs.Chars.{rest-start, ok_next, next_char, rest_end, room, full}
+use Rattle.octets.proofs.Laws.{write_on}
+use Rattle.utf8.specs.Wait.{wait_of}
+use Rattle.written.specs.Name.{rest_of}
+use Rattle.utf8.proofs.Laws.{took_point, took_more, ok}
+use Rattle.written.proofs.Chars.{ok_next, next_char, room}
 use Rattle.written.proofs.put_points.Goals as goal
 
 pub loop-i-preserved-in-Point : goal.loop-i-preserved-in-Point

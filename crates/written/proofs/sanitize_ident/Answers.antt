@@ -1,8 +1,6 @@
 -- `written::sanitize_ident` meets its contract. Assumes nothing.
-use mathlib.Core.Path.{◌≡◌, sym, ◌∙◌, ap}
+use mathlib.Core.Path.{sym, ◌∙◌, ap}
 use lib.ListN.{length}
-use borrow.Author.Rules.{rules}
-use Rattle.written.specs.Written.{written_points, written}
 use Rattle.written.proofs.Ascii.{written-ascii}
 use Rattle.written.proofs.sanitize_ident.Goals as goal
 

@@ -1,8 +1,7 @@
 -- `written::written_len` meets its contract. Assumes nothing.
 use mathlib.Core.Path.{sym, ◌∙◌, ap}
 use lib.ListN.{length}
-use borrow.Author.Rules.{rules}
-use Rattle.written.proofs.Ascii.{written-ascii, written_none, written_some}
+use Rattle.written.proofs.Ascii.{written-ascii, written_some}
 use Rattle.written.proofs.written_len.Goals as goal
 
 pub returns-then-is_ascii : goal.returns-then-is_ascii
