@@ -155,7 +155,7 @@ fn close(object: BpfObject, opened: usize, program: Program) -> Added
 }
 
 // The tables and the open program after a step, with what the step did.
-#[derive(Drop)]
+#[derive(Clone, Copy)]
 struct Built {
     answer: Adding,
     object: BpfObject,
@@ -211,7 +211,7 @@ pub enum Parsing {
 }
 
 // The answer of the whole walk, with the tables beside it.
-#[derive(Drop)]
+#[derive(Clone, Copy)]
 pub struct Parsed {
     pub answer: Parsing,
     pub object: BpfObject,

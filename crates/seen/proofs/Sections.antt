@@ -58,14 +58,14 @@ pub record Sound (s : Section) : Type 0 where
 abbrev seen_headers : List ℕ → ℕ → List Section → List Header
 seen_headers ps n ss = map seen_header (headers_for ps n ss)
 
-all-inside : (f : List ℕ) (ps : List ℕ) (n : ℕ) (ss : List Section) → All Aligned ss → end_of n ss ≤ length f
+all_inside_lem : (f : List ℕ) (ps : List ℕ) (n : ℕ) (ss : List Section) → All Aligned ss → end_of n ss ≤ length f
     → all_inside f (seen_headers ps n ss) ≡ true
-all-inside f [] n [] a l = refl
-all-inside f [] n (s ∷ ss) a l = refl
-all-inside f (p ∷ ps) n [] a l = refl
-all-inside f (p ∷ ps) n (s ∷ ss) a l =
+all_inside_lem f [] n [] a l = refl
+all_inside_lem f [] n (s ∷ ss) a l = refl
+all_inside_lem f (p ∷ ps) n [] a l = refl
+all_inside_lem f (p ∷ ps) n (s ∷ ss) a l =
     let later = end_after (after n s) ss a.1 in
-    rw (le-leb (place n s + length s.contents) (length f) (omega arith), or-true) (all-inside f ps (after n s) ss a.1 l)
+    rw (le-leb (place n s + length s.contents) (length f) (omega arith), or-true) (all_inside_lem f ps (after n s) ss a.1 l)
 
 -- places of names and sections that make a file: its last section is `t`, the table of the names
 pub record SoundFile (names : List ℕ) (ss : List Section) (t : Section) : Type 0 where
@@ -107,7 +107,7 @@ module _ (names : List ℕ) (ss : List Section) (t : Section) (ok : SoundFile na
       let few = ok.few in
       sections_of_lem (file names ss) (table_at ss) (suc (length ss)) (length ss) (seen_headers names 64 ss)
       (value-le 8 (table_at ss) ok.early) (value-le 2 (suc (length ss)) (omega arith)) (value-le 2 (length ss) (omega arith)) headers_of_file
-      (omega arith) refl (omega arith) (omega arith) (omega arith) (omega arith) (all-inside (file names ss) names 64 ss aligned (omega arith))
+      (omega arith) refl (omega arith) (omega arith) (omega arith) (omega arith) (all_inside_lem (file names ss) names 64 ss aligned (omega arith))
 
 -- ---- L2
 
