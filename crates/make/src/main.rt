@@ -3,32 +3,15 @@
 // fails ends it with that error.
 #![tactic(auto)]
 
-ghost use Rattle.std.specs.Prelude.{◌≤◌, length, IfOk};
-
 use maker::Making;
 use std::io;
-use std::io::{Read, Write};
+use std::io::Write;
 
 // The output that is lent, as the scope document has it.
 const OUTPUT: usize = 65536;
 
 // The room for the job: one byte more than a job may have, so that a longer one is seen to be longer.
 const ROOM: usize = 65536;
-
-// Reads until `buf` is full or the input ends, and answers how many bytes it put at the start of `buf`.
-fn read_full<R: Read>(input: &mut R, buf: &mut [u8]) -> io::Result<usize>
-    ensures { IfOk result (λ n. n ≤ length buf.new) }
-{
-    let mut done = 0;
-    while done < buf.len() {
-        let n = input.read(&mut buf[done..])?;
-        if n == 0 {
-            break;
-        }
-        done += n;
-    }
-    Ok(done)
-}
 
 // The one line that a refused job gets.
 fn say_refused<P: Print>(rt: &P, made: Making) -> io::Result<()> {
@@ -61,7 +44,7 @@ fn answer<P: Print>(rt: &P, job: &[u8]) -> io::Result<()> {
 fn main(rt: HostRuntime) -> io::Result<()> {
     let mut job = [0u8; ROOM];
     let mut input = rt.stdin();
-    let n = read_full(&mut input, &mut job)?;
+    let n = input::read_full(&mut input, &mut job)?;
     if n <= ROOM {
         answer(&rt, &job[0..n])?;
     }

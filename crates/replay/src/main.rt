@@ -4,8 +4,6 @@
 // four bytes (length of the job, number of the refusal or 0, its line, length of the object), then the job, then the object.
 #![tactic(auto)]
 
-ghost use Rattle.std.specs.Prelude.{◌≤◌, length, IfOk};
-
 use maker::Making;
 use refusals::Refusal;
 use std::fs::File;
@@ -143,21 +141,6 @@ fn answered_record(record: &[u8], middle: usize, number: u64, line: u64) -> Show
     answered(&record[0..middle], &record[middle..all], number, line)
 }
 
-// Reads until `buf` is full or the input ends, and answers how many bytes it put at the start of `buf`.
-fn read_full<R: Read>(input: &mut R, buf: &mut [u8]) -> io::Result<usize>
-    ensures { IfOk result (λ n. n ≤ length buf.new) }
-{
-    let mut done = 0;
-    while done < buf.len() {
-        let n = input.read(&mut buf[done..])?;
-        if n == 0 {
-            break;
-        }
-        done += n;
-    }
-    Ok(done)
-}
-
 // The job of `n` bytes and the object of `m` bytes that follow a record's numbers, by way of `space`.
 fn replay_job<R: Read>(
     input: &mut R,
@@ -177,7 +160,7 @@ fn replay_job<R: Read>(
     if space.len() < all {
         return Ok(Shown::Broken);
     }
-    let read = read_full(input, &mut space[0..all])?;
+    let read = input::read_full(input, &mut space[0..all])?;
     if read < all {
         return Ok(Shown::Broken);
     }
@@ -187,7 +170,7 @@ fn replay_job<R: Read>(
 // The next record.
 fn replay_one<R: Read>(input: &mut R) -> io::Result<Shown> {
     let mut head = [0u8; 16];
-    let got = read_full(input, &mut head)?;
+    let got = input::read_full(input, &mut head)?;
     if got == 0 {
         return Ok(Shown::End);
     }
