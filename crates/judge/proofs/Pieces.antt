@@ -29,6 +29,10 @@ pub part_bytes : {text l : List ℕ} {from to : ℕ} → Piece text from to l �
 part_bytes {text} {l} {from} {to} p = rw (← p.even) p.bytes
 
 module _ (text : List ℕ) (at end : ℕ) (framed : Framed text at end) where
+  -- where byte `i` of the line starts, if it has so many
+  pub within : (i : ℕ) → i ≤ length (line_bytes text at end) → at + 2 * i ≤ end
+  within i h = omega (arith, h, framed.first, line_length text at end (omega (arith, framed.first)) framed.last framed.hex)
+
   -- bytes `i` to `j` of the line
   pub middle : (i j from to : ℕ) → i ≤ j → from ≡ at + 2 * i → to ≡ at + 2 * j → to ≤ end
       → Piece text from to (take (j - i) (drop i (line_bytes text at end)))

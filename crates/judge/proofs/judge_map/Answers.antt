@@ -17,7 +17,7 @@ use Rattle.refusals.specs.Checked.{Stage, long, bad_name, added}
 use Rattle.flaws.specs.Flaws.{flaw_told, limit_told}
 use Rattle.judge.specs.declared.Counts.{Counts}
 use Rattle.judge.specs.Judged.{line_bytes, map_frame_of, Agrees}
-use Rattle.judge.proofs.Pieces.{rest, part_hex, part_bytes, piece_name, piece_named}
+use Rattle.judge.proofs.Pieces.{within, rest, part_hex, part_bytes, piece_name, piece_named}
 use Rattle.judge.proofs.Judge.{stops, goes, at_5, at_6, at_none}
 use Rattle.judge.proofs.judge_map.Goals as goal
 
@@ -35,116 +35,104 @@ early : (s : Stage) (k : Counts) → Agrees s k → k.programs ≤ 0 → late s 
 early s k e h = le-ltb 0 (length s.job.programs) (omega (arith, e.programs))
 
 pub overflow_mul-from : goal.overflow_mul-from
-overflow_mul-from c =
-    let inside : c.args.at + 2 * c.args.name ≤ c.args.end = (let a = c.args in let f = c.requires.framed in omega (arith, c.requires.le_name, f.first, line_length a.text.now a.at a.end (omega (arith, f.first)) f.last f.hex)) in
-    omega (arith, inside)
+overflow_mul-from c = omega (arith, within c.args.text.now c.args.at c.args.end c.requires.framed c.args.name c.requires.le_name.1)
 
 pub overflow_add-from : goal.overflow_add-from
-overflow_add-from c =
-    let inside : c.args.at + 2 * c.args.name ≤ c.args.end = (let a = c.args in let f = c.requires.framed in omega (arith, c.requires.le_name, f.first, line_length a.text.now a.at a.end (omega (arith, f.first)) f.last f.hex)) in
-    omega (arith, inside)
+overflow_add-from c = omega (arith, within c.args.text.now c.args.at c.args.end c.requires.framed c.args.name c.requires.le_name.1)
 
 pub slice_bounds-name_flaw-count : goal.slice_bounds-name_flaw-count
-slice_bounds-name_flaw-count c =
-    let inside : c.args.at + 2 * c.args.name ≤ c.args.end = (let a = c.args in let f = c.requires.framed in omega (arith, c.requires.le_name, f.first, line_length a.text.now a.at a.end (omega (arith, f.first)) f.last f.hex)) in
-    omega (arith, inside)
+slice_bounds-name_flaw-count c = omega (arith, within c.args.text.now c.args.at c.args.end c.requires.framed c.args.name c.requires.le_name.1)
 
 pub slice_bounds-name_flaw-start : goal.slice_bounds-name_flaw-start
-slice_bounds-name_flaw-start c =
-    let inside : c.args.at + 2 * c.args.name ≤ c.args.end = (let a = c.args in let f = c.requires.framed in omega (arith, c.requires.le_name, f.first, line_length a.text.now a.at a.end (omega (arith, f.first)) f.last f.hex)) in
-    omega (arith, inside)
+slice_bounds-name_flaw-start c = omega (arith, within c.args.text.now c.args.at c.args.end c.requires.framed c.args.name c.requires.le_name.1)
 
 pub name_flaw-flaw-requires : goal.name_flaw-flaw-requires
 name_flaw-flaw-requires c =
-    let inside : c.args.at + 2 * c.args.name ≤ c.args.end = (let a = c.args in let f = c.requires.framed in omega (arith, c.requires.le_name, f.first, line_length a.text.now a.at a.end (omega (arith, f.first)) f.last f.hex)) in
-    let piece = (let a = c.args in rest a.text.now a.at a.end c.requires.framed a.name (a.at + 2 * a.name) (omega arith) (inside)) in
-    part_hex (piece)
+    let inside = within c.args.text.now c.args.at c.args.end c.requires.framed c.args.name c.requires.le_name.1 in
+    let piece = (let a = c.args in rest a.text.now a.at a.end c.requires.framed a.name (a.at + 2 * a.name) (omega arith) inside) in
+    part_hex piece
 
 pub returns-in_default : goal.returns-in_default
 returns-in_default c =
     let bytes = line_bytes c.args.text.now c.args.at c.args.end in
-    let given = drop c.args.name (bytes) in
-    let frame = map_frame_of c.args.decl (given) in
-    let inside : c.args.at + 2 * c.args.name ≤ c.args.end = (let a = c.args in let f = c.requires.framed in omega (arith, c.requires.le_name, f.first, line_length a.text.now a.at a.end (omega (arith, f.first)) f.last f.hex)) in
-    let piece = (let a = c.args in rest a.text.now a.at a.end c.requires.framed a.name (a.at + 2 * a.name) (omega arith) (inside)) in
-    let flaw = c.name_flaw-flaw.ensures ∙ ap (λ (x : List ℕ). told_if 5 (bad_name x)) (part_bytes (piece)) in
+    let given = drop c.args.name bytes in
+    let frame = map_frame_of c.args.decl given in
+    let inside = within c.args.text.now c.args.at c.args.end c.requires.framed c.args.name c.requires.le_name.1 in
+    let piece = (let a = c.args in rest a.text.now a.at a.end c.requires.framed a.name (a.at + 2 * a.name) (omega arith) inside) in
+    let flaw = c.name_flaw-flaw.ensures ∙ ap (λ (x : List ℕ). told_if 5 (bad_name x)) (part_bytes piece) in
     let t = given in
     λ s e. (
-      stops s (frame) (bytes) c.requires.says 5
+      stops s frame bytes c.requires.says 5
           (at_5 (late s) (bad_name t) (over s given) (early s c.args.counts e (omega arith)) (told_holds 5 5 (bad_name t) (sym (ap flaw_told c.in_default.is) ∙ flaw))),
       omega (arith, e.lines),
     )
 
 pub slice_bounds-name_limit-count : goal.slice_bounds-name_limit-count
-slice_bounds-name_limit-count c =
-    let inside : c.args.at + 2 * c.args.name ≤ c.args.end = (let a = c.args in let f = c.requires.framed in omega (arith, c.requires.le_name, f.first, line_length a.text.now a.at a.end (omega (arith, f.first)) f.last f.hex)) in
-    omega (arith, inside)
+slice_bounds-name_limit-count c = omega (arith, within c.args.text.now c.args.at c.args.end c.requires.framed c.args.name c.requires.le_name.1)
 
 pub slice_bounds-name_limit-start : goal.slice_bounds-name_limit-start
-slice_bounds-name_limit-start c =
-    let inside : c.args.at + 2 * c.args.name ≤ c.args.end = (let a = c.args in let f = c.requires.framed in omega (arith, c.requires.le_name, f.first, line_length a.text.now a.at a.end (omega (arith, f.first)) f.last f.hex)) in
-    omega (arith, inside)
+slice_bounds-name_limit-start c = omega (arith, within c.args.text.now c.args.at c.args.end c.requires.framed c.args.name c.requires.le_name.1)
 
 pub name_limit-limit-requires : goal.name_limit-limit-requires
 name_limit-limit-requires c =
-    let inside : c.args.at + 2 * c.args.name ≤ c.args.end = (let a = c.args in let f = c.requires.framed in omega (arith, c.requires.le_name, f.first, line_length a.text.now a.at a.end (omega (arith, f.first)) f.last f.hex)) in
-    let piece = (let a = c.args in rest a.text.now a.at a.end c.requires.framed a.name (a.at + 2 * a.name) (omega arith) (inside)) in
-    part_hex (piece)
+    let inside = within c.args.text.now c.args.at c.args.end c.requires.framed c.args.name c.requires.le_name.1 in
+    let piece = (let a = c.args in rest a.text.now a.at a.end c.requires.framed a.name (a.at + 2 * a.name) (omega arith) inside) in
+    part_hex piece
 
 pub returns-in_default-limit : goal.returns-in_default-limit
 returns-in_default-limit c =
     let bytes = line_bytes c.args.text.now c.args.at c.args.end in
-    let given = drop c.args.name (bytes) in
-    let frame = map_frame_of c.args.decl (given) in
-    let inside : c.args.at + 2 * c.args.name ≤ c.args.end = (let a = c.args in let f = c.requires.framed in omega (arith, c.requires.le_name, f.first, line_length a.text.now a.at a.end (omega (arith, f.first)) f.last f.hex)) in
-    let piece = (let a = c.args in rest a.text.now a.at a.end c.requires.framed a.name (a.at + 2 * a.name) (omega arith) (inside)) in
-    let flaw = c.name_flaw-flaw.ensures ∙ ap (λ (x : List ℕ). told_if 5 (bad_name x)) (part_bytes (piece)) in
+    let given = drop c.args.name bytes in
+    let frame = map_frame_of c.args.decl given in
+    let inside = within c.args.text.now c.args.at c.args.end c.requires.framed c.args.name c.requires.le_name.1 in
+    let piece = (let a = c.args in rest a.text.now a.at a.end c.requires.framed a.name (a.at + 2 * a.name) (omega arith) inside) in
+    let flaw = c.name_flaw-flaw.ensures ∙ ap (λ (x : List ℕ). told_if 5 (bad_name x)) (part_bytes piece) in
     let good = told_free 5 _ (sym (ap flaw_told c.in-Good.is) ∙ flaw) in
     let full = leb 64 c.args.counts.maps in
-    let limit = c.name_limit-limit.ensures ∙ ap (λ (x : List ℕ). told_if 6 (full || long x)) (part_bytes (piece)) in
+    let limit = c.name_limit-limit.ensures ∙ ap (λ (x : List ℕ). told_if 6 (full || long x)) (part_bytes piece) in
     λ s e. (
-      stops s (frame) (bytes) c.requires.says 6
-          (at_6 (late s) (bad_name (given)) (over s given) (early s c.args.counts e (omega arith)) (good)
-          (over-is s c.args.counts given e true (told_holds 6 6 (full || long (given)) (sym (ap limit_told c.in_default-limit.is) ∙ limit)))),
+      stops s frame bytes c.requires.says 6
+          (at_6 (late s) (bad_name given) (over s given) (early s c.args.counts e (omega arith)) good
+          (over-is s c.args.counts given e true (told_holds 6 6 (full || long given) (sym (ap limit_told c.in_default-limit.is) ∙ limit)))),
       omega (arith, e.lines),
     )
 
 pub name_at-name-requires : goal.name_at-name-requires
 name_at-name-requires c =
     let bytes = line_bytes c.args.text.now c.args.at c.args.end in
-    let given = drop c.args.name (bytes) in
+    let given = drop c.args.name bytes in
     let full = leb 64 c.args.counts.maps in
-    let inside : c.args.at + 2 * c.args.name ≤ c.args.end = (let a = c.args in let f = c.requires.framed in omega (arith, c.requires.le_name, f.first, line_length a.text.now a.at a.end (omega (arith, f.first)) f.last f.hex)) in
-    let piece = (let a = c.args in rest a.text.now a.at a.end c.requires.framed a.name (a.at + 2 * a.name) (omega arith) (inside)) in
-    let limit = c.name_limit-limit.ensures ∙ ap (λ (x : List ℕ). told_if 6 (full || long x)) (part_bytes (piece)) in
+    let inside = within c.args.text.now c.args.at c.args.end c.requires.framed c.args.name c.requires.le_name.1 in
+    let piece = (let a = c.args in rest a.text.now a.at a.end c.requires.framed a.name (a.at + 2 * a.name) (omega arith) inside) in
+    let limit = c.name_limit-limit.ensures ∙ ap (λ (x : List ℕ). told_if 6 (full || long x)) (part_bytes piece) in
     let kept = told_free 6 _ (sym (ap limit_told c.in-Kept.is) ∙ limit) in
-    let short : long (given) ≡ false = (or_false_both (full) (long (given)) (kept)).1 in
+    let short : long given ≡ false = (or_false_both full (long given) kept).1 in
     let f = c.requires.framed in
-    let n = ltb-false 64 (length (given)) (short) in record {
+    let n = ltb-false 64 (length given) short in record {
       from_le_end = inside;
       end_bound = omega (arith, f.few, f.last);
-      end_bound_2 = omega (arith, (piece).count, (piece).even);
+      end_bound_2 = omega (arith, piece.count, piece.even);
     }
 
 pub returns : goal.returns
 returns c =
     let bytes = line_bytes c.args.text.now c.args.at c.args.end in
-    let given = drop c.args.name (bytes) in
+    let given = drop c.args.name bytes in
     let full = leb 64 c.args.counts.maps in
-    let inside : c.args.at + 2 * c.args.name ≤ c.args.end = (let a = c.args in let f = c.requires.framed in omega (arith, c.requires.le_name, f.first, line_length a.text.now a.at a.end (omega (arith, f.first)) f.last f.hex)) in
-    let piece = (let a = c.args in rest a.text.now a.at a.end c.requires.framed a.name (a.at + 2 * a.name) (omega arith) (inside)) in
-    let limit = c.name_limit-limit.ensures ∙ ap (λ (x : List ℕ). told_if 6 (full || long x)) (part_bytes (piece)) in
+    let inside = within c.args.text.now c.args.at c.args.end c.requires.framed c.args.name c.requires.le_name.1 in
+    let piece = (let a = c.args in rest a.text.now a.at a.end c.requires.framed a.name (a.at + 2 * a.name) (omega arith) inside) in
+    let limit = c.name_limit-limit.ensures ∙ ap (λ (x : List ℕ). told_if 6 (full || long x)) (part_bytes piece) in
     let kept = told_free 6 _ (sym (ap limit_told c.in-Kept.is) ∙ limit) in
-    let frame = map_frame_of c.args.decl (given) in
-    let flaw = c.name_flaw-flaw.ensures ∙ ap (λ (x : List ℕ). told_if 5 (bad_name x)) (part_bytes (piece)) in
+    let frame = map_frame_of c.args.decl given in
+    let flaw = c.name_flaw-flaw.ensures ∙ ap (λ (x : List ℕ). told_if 5 (bad_name x)) (part_bytes piece) in
     let good = told_free 5 _ (sym (ap flaw_told c.in-Good.is) ∙ flaw) in
-    let short : long (given) ≡ false = (or_false_both (full) (long (given)) (kept)).1 in
+    let short : long given ≡ false = (or_false_both full (long given) kept).1 in
     let t = given in
-    let m = leb-false 64 c.args.counts.maps (or_false_both (full) (long t) (kept)).0 in
+    let m = leb-false 64 c.args.counts.maps (or_false_both full (long t) kept).0 in
     λ s e. rw c.name_at-name.ensures (
-      goes s (frame) (bytes) c.requires.says
-          (at_none (late s) (bad_name t) (over s given) (early s c.args.counts e (omega arith)) (good) (over-is s c.args.counts given e false (kept)))
-          ∙ ap (λ (n : List ℕ). added s (map_frame_of c.args.decl n)) (sym (piece_name (piece))),
-      (piece_named (piece) (inside) c.requires.framed.last (not-false (is_text t) (good)) (short), omega (arith, e.maps), omega (arith, e.programs)),
-      c.requires.says ∙ ap (λ (n : List ℕ). some (map_frame_of c.args.decl n)) (sym (piece_name (piece))),
+      goes s frame bytes c.requires.says
+          (at_none (late s) (bad_name t) (over s given) (early s c.args.counts e (omega arith)) good (over-is s c.args.counts given e false kept))
+          ∙ ap (λ (n : List ℕ). added s (map_frame_of c.args.decl n)) (sym (piece_name piece)),
+      (piece_named piece inside c.requires.framed.last (not-false (is_text t) good) short, omega (arith, e.maps), omega (arith, e.programs)),
+      c.requires.says ∙ ap (λ (n : List ℕ). some (map_frame_of c.args.decl n)) (sym (piece_name piece)),
     )

@@ -18,7 +18,7 @@ use Rattle.refusals.specs.Checked.{Stage, long, bad_name, bad_string, bad_progra
 use Rattle.flaws.specs.Flaws.{flaw_told, limit_told}
 use Rattle.judge.specs.declared.Counts.{Counts}
 use Rattle.judge.specs.Judged.{line_bytes, Agrees}
-use Rattle.judge.proofs.Pieces.{middle, rest, part_hex, part_bytes, piece_name, piece_named}
+use Rattle.judge.proofs.Pieces.{within, middle, rest, part_hex, part_bytes, piece_name, piece_named}
 use Rattle.judge.proofs.Judge.{stops, goes, at_5, at_6, at_none}
 use Rattle.judge.proofs.judge_program.Goals as goal
 
@@ -44,161 +44,147 @@ same-frame e f = rw (e, f)
 -- ---- the answers
 
 pub overflow_mul-middle : goal.overflow_mul-middle
-overflow_mul-middle c =
-    let inside : c.args.at + 2 * c.args.symbol ≤ c.args.end = (let a = c.args in let f = c.requires.framed in omega (arith, c.requires.le_symbol, f.first, line_length a.text.now a.at a.end (omega (arith, f.first)) f.last f.hex)) in
-    omega (arith, inside)
+overflow_mul-middle c = omega (arith, within c.args.text.now c.args.at c.args.end c.requires.framed c.args.symbol c.requires.le_symbol.1)
 
 pub overflow_add-middle : goal.overflow_add-middle
-overflow_add-middle c =
-    let inside : c.args.at + 2 * c.args.symbol ≤ c.args.end = (let a = c.args in let f = c.requires.framed in omega (arith, c.requires.le_symbol, f.first, line_length a.text.now a.at a.end (omega (arith, f.first)) f.last f.hex)) in
-    omega (arith, inside)
+overflow_add-middle c = omega (arith, within c.args.text.now c.args.at c.args.end c.requires.framed c.args.symbol c.requires.le_symbol.1)
 
 pub slice_bounds-program_flaw-end : goal.slice_bounds-program_flaw-end
-slice_bounds-program_flaw-end c =
-    let inside : c.args.at + 2 * c.args.symbol ≤ c.args.end = (let a = c.args in let f = c.requires.framed in omega (arith, c.requires.le_symbol, f.first, line_length a.text.now a.at a.end (omega (arith, f.first)) f.last f.hex)) in
-    omega (arith, inside, c.requires.framed.last)
+slice_bounds-program_flaw-end c = omega (arith, within c.args.text.now c.args.at c.args.end c.requires.framed c.args.symbol c.requires.le_symbol.1, c.requires.framed.last)
 
 pub slice_bounds-program_flaw-count-2 : goal.slice_bounds-program_flaw-count-2
-slice_bounds-program_flaw-count-2 c =
-    let inside : c.args.at + 2 * c.args.symbol ≤ c.args.end = (let a = c.args in let f = c.requires.framed in omega (arith, c.requires.le_symbol, f.first, line_length a.text.now a.at a.end (omega (arith, f.first)) f.last f.hex)) in
-    omega (arith, inside)
+slice_bounds-program_flaw-count-2 c = omega (arith, within c.args.text.now c.args.at c.args.end c.requires.framed c.args.symbol c.requires.le_symbol.1)
 
 pub slice_bounds-program_flaw-start-2 : goal.slice_bounds-program_flaw-start-2
-slice_bounds-program_flaw-start-2 c =
-    let inside : c.args.at + 2 * c.args.symbol ≤ c.args.end = (let a = c.args in let f = c.requires.framed in omega (arith, c.requires.le_symbol, f.first, line_length a.text.now a.at a.end (omega (arith, f.first)) f.last f.hex)) in
-    omega (arith, inside)
+slice_bounds-program_flaw-start-2 c = omega (arith, within c.args.text.now c.args.at c.args.end c.requires.framed c.args.symbol c.requires.le_symbol.1)
 
 pub program_flaw-flaw-requires : goal.program_flaw-flaw-requires
 program_flaw-flaw-requires c =
-    let inside : c.args.at + 2 * c.args.symbol ≤ c.args.end = (let a = c.args in let f = c.requires.framed in omega (arith, c.requires.le_symbol, f.first, line_length a.text.now a.at a.end (omega (arith, f.first)) f.last f.hex)) in
-    let first_piece = (let a = c.args in middle a.text.now a.at a.end c.requires.framed 2 a.symbol (a.at + 4) (a.at + 2 * a.symbol) c.requires.le_symbol.0 (omega arith) (omega arith) (inside)) in
-    let second-piece = (let a = c.args in rest a.text.now a.at a.end c.requires.framed a.symbol (a.at + 2 * a.symbol) (omega arith) (inside)) in record {
-      section_value = part_hex (first_piece);
-      symbol_value = part_hex (second-piece);
+    let inside = within c.args.text.now c.args.at c.args.end c.requires.framed c.args.symbol c.requires.le_symbol.1 in
+    let first_piece = (let a = c.args in middle a.text.now a.at a.end c.requires.framed 2 a.symbol (a.at + 4) (a.at + 2 * a.symbol) c.requires.le_symbol.0 (omega arith) (omega arith) inside) in
+    let second-piece = (let a = c.args in rest a.text.now a.at a.end c.requires.framed a.symbol (a.at + 2 * a.symbol) (omega arith) inside) in record {
+      section_value = part_hex first_piece;
+      symbol_value = part_hex second-piece;
     }
 
 pub returns-in_default : goal.returns-in_default
 returns-in_default c =
     let bytes = line_bytes c.args.text.now c.args.at c.args.end in
-    let section_of = take (c.args.symbol - 2) (drop 2 (bytes)) in
-    let symbol_of = drop c.args.symbol (bytes) in
-    let frame = program (section_of) (symbol_of) in
-    let inside : c.args.at + 2 * c.args.symbol ≤ c.args.end = (let a = c.args in let f = c.requires.framed in omega (arith, c.requires.le_symbol, f.first, line_length a.text.now a.at a.end (omega (arith, f.first)) f.last f.hex)) in
-    let first_piece = (let a = c.args in middle a.text.now a.at a.end c.requires.framed 2 a.symbol (a.at + 4) (a.at + 2 * a.symbol) c.requires.le_symbol.0 (omega arith) (omega arith) (inside)) in
-    let second-piece = (let a = c.args in rest a.text.now a.at a.end c.requires.framed a.symbol (a.at + 2 * a.symbol) (omega arith) (inside)) in
-    let flaw = c.program_flaw-flaw.ensures ∙ same-flaw (part_bytes (first_piece)) (part_bytes (second-piece)) in
+    let section_of = take (c.args.symbol - 2) (drop 2 bytes) in
+    let symbol_of = drop c.args.symbol bytes in
+    let frame = program section_of symbol_of in
+    let inside = within c.args.text.now c.args.at c.args.end c.requires.framed c.args.symbol c.requires.le_symbol.1 in
+    let first_piece = (let a = c.args in middle a.text.now a.at a.end c.requires.framed 2 a.symbol (a.at + 4) (a.at + 2 * a.symbol) c.requires.le_symbol.0 (omega arith) (omega arith) inside) in
+    let second-piece = (let a = c.args in rest a.text.now a.at a.end c.requires.framed a.symbol (a.at + 2 * a.symbol) (omega arith) inside) in
+    let flaw = c.program_flaw-flaw.ensures ∙ same-flaw (part_bytes first_piece) (part_bytes second-piece) in
     λ s e. (
-      stops s (frame) (bytes) c.requires.says 5
-          (at_5 false (bad_program (section_of) (symbol_of)) (over s section_of symbol_of) refl (told_holds 5 5 (bad_program (section_of) (symbol_of)) (sym (ap flaw_told c.in_default.is) ∙ flaw))),
+      stops s frame bytes c.requires.says 5
+          (at_5 false (bad_program section_of symbol_of) (over s section_of symbol_of) refl (told_holds 5 5 (bad_program section_of symbol_of) (sym (ap flaw_told c.in_default.is) ∙ flaw))),
       omega (arith, e.lines),
     )
 
 pub slice_bounds-program_limit-count-2 : goal.slice_bounds-program_limit-count-2
-slice_bounds-program_limit-count-2 c =
-    let inside : c.args.at + 2 * c.args.symbol ≤ c.args.end = (let a = c.args in let f = c.requires.framed in omega (arith, c.requires.le_symbol, f.first, line_length a.text.now a.at a.end (omega (arith, f.first)) f.last f.hex)) in
-    omega (arith, inside)
+slice_bounds-program_limit-count-2 c = omega (arith, within c.args.text.now c.args.at c.args.end c.requires.framed c.args.symbol c.requires.le_symbol.1)
 
 pub slice_bounds-program_limit-start-2 : goal.slice_bounds-program_limit-start-2
-slice_bounds-program_limit-start-2 c =
-    let inside : c.args.at + 2 * c.args.symbol ≤ c.args.end = (let a = c.args in let f = c.requires.framed in omega (arith, c.requires.le_symbol, f.first, line_length a.text.now a.at a.end (omega (arith, f.first)) f.last f.hex)) in
-    omega (arith, inside)
+slice_bounds-program_limit-start-2 c = omega (arith, within c.args.text.now c.args.at c.args.end c.requires.framed c.args.symbol c.requires.le_symbol.1)
 
 pub program_limit-limit-requires : goal.program_limit-limit-requires
 program_limit-limit-requires c =
-    let inside : c.args.at + 2 * c.args.symbol ≤ c.args.end = (let a = c.args in let f = c.requires.framed in omega (arith, c.requires.le_symbol, f.first, line_length a.text.now a.at a.end (omega (arith, f.first)) f.last f.hex)) in
-    let first_piece = (let a = c.args in middle a.text.now a.at a.end c.requires.framed 2 a.symbol (a.at + 4) (a.at + 2 * a.symbol) c.requires.le_symbol.0 (omega arith) (omega arith) (inside)) in
-    let second-piece = (let a = c.args in rest a.text.now a.at a.end c.requires.framed a.symbol (a.at + 2 * a.symbol) (omega arith) (inside)) in record {
-      section_value = part_hex (first_piece);
-      symbol_value = part_hex (second-piece);
+    let inside = within c.args.text.now c.args.at c.args.end c.requires.framed c.args.symbol c.requires.le_symbol.1 in
+    let first_piece = (let a = c.args in middle a.text.now a.at a.end c.requires.framed 2 a.symbol (a.at + 4) (a.at + 2 * a.symbol) c.requires.le_symbol.0 (omega arith) (omega arith) inside) in
+    let second-piece = (let a = c.args in rest a.text.now a.at a.end c.requires.framed a.symbol (a.at + 2 * a.symbol) (omega arith) inside) in record {
+      section_value = part_hex first_piece;
+      symbol_value = part_hex second-piece;
     }
 
 pub returns-in_default-limit : goal.returns-in_default-limit
 returns-in_default-limit c =
     let bytes = line_bytes c.args.text.now c.args.at c.args.end in
-    let section_of = take (c.args.symbol - 2) (drop 2 (bytes)) in
-    let symbol_of = drop c.args.symbol (bytes) in
-    let frame = program (section_of) (symbol_of) in
-    let inside : c.args.at + 2 * c.args.symbol ≤ c.args.end = (let a = c.args in let f = c.requires.framed in omega (arith, c.requires.le_symbol, f.first, line_length a.text.now a.at a.end (omega (arith, f.first)) f.last f.hex)) in
-    let first_piece = (let a = c.args in middle a.text.now a.at a.end c.requires.framed 2 a.symbol (a.at + 4) (a.at + 2 * a.symbol) c.requires.le_symbol.0 (omega arith) (omega arith) (inside)) in
-    let second-piece = (let a = c.args in rest a.text.now a.at a.end c.requires.framed a.symbol (a.at + 2 * a.symbol) (omega arith) (inside)) in
-    let flaw = c.program_flaw-flaw.ensures ∙ same-flaw (part_bytes (first_piece)) (part_bytes (second-piece)) in
+    let section_of = take (c.args.symbol - 2) (drop 2 bytes) in
+    let symbol_of = drop c.args.symbol bytes in
+    let frame = program section_of symbol_of in
+    let inside = within c.args.text.now c.args.at c.args.end c.requires.framed c.args.symbol c.requires.le_symbol.1 in
+    let first_piece = (let a = c.args in middle a.text.now a.at a.end c.requires.framed 2 a.symbol (a.at + 4) (a.at + 2 * a.symbol) c.requires.le_symbol.0 (omega arith) (omega arith) inside) in
+    let second-piece = (let a = c.args in rest a.text.now a.at a.end c.requires.framed a.symbol (a.at + 2 * a.symbol) (omega arith) inside) in
+    let flaw = c.program_flaw-flaw.ensures ∙ same-flaw (part_bytes first_piece) (part_bytes second-piece) in
     let good = told_free 5 _ (sym (ap flaw_told c.in-Good.is) ∙ flaw) in
     let full = leb 32 c.args.counts.programs in
-    let limit = c.program_limit-limit.ensures ∙ same-limit (full) (part_bytes (first_piece)) (part_bytes (second-piece)) in
+    let limit = c.program_limit-limit.ensures ∙ same-limit full (part_bytes first_piece) (part_bytes second-piece) in
     λ s e. (
-      stops s (frame) (bytes) c.requires.says 6
-          (at_6 false (bad_program (section_of) (symbol_of)) (over s section_of symbol_of) refl (good)
-          (over-is s c.args.counts section_of symbol_of e true (told_holds 6 6 (full || long (section_of) || long (symbol_of)) (sym (ap limit_told c.in_default-limit.is) ∙ limit)))),
+      stops s frame bytes c.requires.says 6
+          (at_6 false (bad_program section_of symbol_of) (over s section_of symbol_of) refl good
+          (over-is s c.args.counts section_of symbol_of e true (told_holds 6 6 (full || long section_of || long symbol_of) (sym (ap limit_told c.in_default-limit.is) ∙ limit)))),
       omega (arith, e.lines),
     )
 
 pub name_at-section-requires : goal.name_at-section-requires
 name_at-section-requires c =
     let bytes = line_bytes c.args.text.now c.args.at c.args.end in
-    let section_of = take (c.args.symbol - 2) (drop 2 (bytes)) in
+    let section_of = take (c.args.symbol - 2) (drop 2 bytes) in
     let full = leb 32 c.args.counts.programs in
-    let symbol_of = drop c.args.symbol (bytes) in
-    let inside : c.args.at + 2 * c.args.symbol ≤ c.args.end = (let a = c.args in let f = c.requires.framed in omega (arith, c.requires.le_symbol, f.first, line_length a.text.now a.at a.end (omega (arith, f.first)) f.last f.hex)) in
-    let first_piece = (let a = c.args in middle a.text.now a.at a.end c.requires.framed 2 a.symbol (a.at + 4) (a.at + 2 * a.symbol) c.requires.le_symbol.0 (omega arith) (omega arith) (inside)) in
-    let second-piece = (let a = c.args in rest a.text.now a.at a.end c.requires.framed a.symbol (a.at + 2 * a.symbol) (omega arith) (inside)) in
-    let limit = c.program_limit-limit.ensures ∙ same-limit (full) (part_bytes (first_piece)) (part_bytes (second-piece)) in
+    let symbol_of = drop c.args.symbol bytes in
+    let inside = within c.args.text.now c.args.at c.args.end c.requires.framed c.args.symbol c.requires.le_symbol.1 in
+    let first_piece = (let a = c.args in middle a.text.now a.at a.end c.requires.framed 2 a.symbol (a.at + 4) (a.at + 2 * a.symbol) c.requires.le_symbol.0 (omega arith) (omega arith) inside) in
+    let second-piece = (let a = c.args in rest a.text.now a.at a.end c.requires.framed a.symbol (a.at + 2 * a.symbol) (omega arith) inside) in
+    let limit = c.program_limit-limit.ensures ∙ same-limit full (part_bytes first_piece) (part_bytes second-piece) in
     let kept = told_free 6 _ (sym (ap limit_told c.in-Kept.is) ∙ limit) in
-    let room : (full || long (section_of)) ≡ false = (or_false_both (full || long (section_of)) (long (symbol_of)) (kept)).0 in
-    let short-section : long (section_of) ≡ false = (or_false_both (full) (long (section_of)) (room)).1 in
+    let room : (full || long section_of) ≡ false = (or_false_both (full || long section_of) (long symbol_of) kept).0 in
+    let short-section : long section_of ≡ false = (or_false_both full (long section_of) room).1 in
     let f = c.requires.framed in
-    let n = ltb-false 64 (length (section_of)) (short-section) in record {
+    let n = ltb-false 64 (length section_of) short-section in record {
       from_le_end = omega (arith, c.requires.le_symbol);
       end_bound = omega (arith, f.few, f.last, inside);
-      end_bound_2 = omega (arith, (first_piece).count, (first_piece).even);
+      end_bound_2 = omega (arith, first_piece.count, first_piece.even);
     }
 
 pub name_at-symbol-requires : goal.name_at-symbol-requires
 name_at-symbol-requires c =
     let bytes = line_bytes c.args.text.now c.args.at c.args.end in
-    let symbol_of = drop c.args.symbol (bytes) in
+    let symbol_of = drop c.args.symbol bytes in
     let full = leb 32 c.args.counts.programs in
-    let section_of = take (c.args.symbol - 2) (drop 2 (bytes)) in
-    let inside : c.args.at + 2 * c.args.symbol ≤ c.args.end = (let a = c.args in let f = c.requires.framed in omega (arith, c.requires.le_symbol, f.first, line_length a.text.now a.at a.end (omega (arith, f.first)) f.last f.hex)) in
-    let first_piece = (let a = c.args in middle a.text.now a.at a.end c.requires.framed 2 a.symbol (a.at + 4) (a.at + 2 * a.symbol) c.requires.le_symbol.0 (omega arith) (omega arith) (inside)) in
-    let second-piece = (let a = c.args in rest a.text.now a.at a.end c.requires.framed a.symbol (a.at + 2 * a.symbol) (omega arith) (inside)) in
-    let limit = c.program_limit-limit.ensures ∙ same-limit (full) (part_bytes (first_piece)) (part_bytes (second-piece)) in
+    let section_of = take (c.args.symbol - 2) (drop 2 bytes) in
+    let inside = within c.args.text.now c.args.at c.args.end c.requires.framed c.args.symbol c.requires.le_symbol.1 in
+    let first_piece = (let a = c.args in middle a.text.now a.at a.end c.requires.framed 2 a.symbol (a.at + 4) (a.at + 2 * a.symbol) c.requires.le_symbol.0 (omega arith) (omega arith) inside) in
+    let second-piece = (let a = c.args in rest a.text.now a.at a.end c.requires.framed a.symbol (a.at + 2 * a.symbol) (omega arith) inside) in
+    let limit = c.program_limit-limit.ensures ∙ same-limit full (part_bytes first_piece) (part_bytes second-piece) in
     let kept = told_free 6 _ (sym (ap limit_told c.in-Kept.is) ∙ limit) in
-    let short-symbol : long (symbol_of) ≡ false = (or_false_both (full || long (section_of)) (long (symbol_of)) (kept)).1 in
+    let short-symbol : long symbol_of ≡ false = (or_false_both (full || long section_of) (long symbol_of) kept).1 in
     let f = c.requires.framed in
-    let n = ltb-false 64 (length (symbol_of)) (short-symbol) in record {
+    let n = ltb-false 64 (length symbol_of) short-symbol in record {
       from_le_end = inside;
       end_bound = omega (arith, f.few, f.last);
-      end_bound_2 = omega (arith, (second-piece).count, (second-piece).even);
+      end_bound_2 = omega (arith, second-piece.count, second-piece.even);
     }
 
 pub returns : goal.returns
 returns c =
     let full = leb 32 c.args.counts.programs in
     let bytes = line_bytes c.args.text.now c.args.at c.args.end in
-    let section_of = take (c.args.symbol - 2) (drop 2 (bytes)) in
-    let symbol_of = drop c.args.symbol (bytes) in
-    let inside : c.args.at + 2 * c.args.symbol ≤ c.args.end = (let a = c.args in let f = c.requires.framed in omega (arith, c.requires.le_symbol, f.first, line_length a.text.now a.at a.end (omega (arith, f.first)) f.last f.hex)) in
-    let first_piece = (let a = c.args in middle a.text.now a.at a.end c.requires.framed 2 a.symbol (a.at + 4) (a.at + 2 * a.symbol) c.requires.le_symbol.0 (omega arith) (omega arith) (inside)) in
-    let second-piece = (let a = c.args in rest a.text.now a.at a.end c.requires.framed a.symbol (a.at + 2 * a.symbol) (omega arith) (inside)) in
-    let limit = c.program_limit-limit.ensures ∙ same-limit (full) (part_bytes (first_piece)) (part_bytes (second-piece)) in
+    let section_of = take (c.args.symbol - 2) (drop 2 bytes) in
+    let symbol_of = drop c.args.symbol bytes in
+    let inside = within c.args.text.now c.args.at c.args.end c.requires.framed c.args.symbol c.requires.le_symbol.1 in
+    let first_piece = (let a = c.args in middle a.text.now a.at a.end c.requires.framed 2 a.symbol (a.at + 4) (a.at + 2 * a.symbol) c.requires.le_symbol.0 (omega arith) (omega arith) inside) in
+    let second-piece = (let a = c.args in rest a.text.now a.at a.end c.requires.framed a.symbol (a.at + 2 * a.symbol) (omega arith) inside) in
+    let limit = c.program_limit-limit.ensures ∙ same-limit full (part_bytes first_piece) (part_bytes second-piece) in
     let kept = told_free 6 _ (sym (ap limit_told c.in-Kept.is) ∙ limit) in
-    let room : (full || long (section_of)) ≡ false = (or_false_both (full || long (section_of)) (long (symbol_of)) (kept)).0 in
-    let frame = program (section_of) (symbol_of) in
-    let flaw = c.program_flaw-flaw.ensures ∙ same-flaw (part_bytes (first_piece)) (part_bytes (second-piece)) in
+    let room : (full || long section_of) ≡ false = (or_false_both (full || long section_of) (long symbol_of) kept).0 in
+    let frame = program section_of symbol_of in
+    let flaw = c.program_flaw-flaw.ensures ∙ same-flaw (part_bytes first_piece) (part_bytes second-piece) in
     let good = told_free 5 _ (sym (ap flaw_told c.in-Good.is) ∙ flaw) in
-    let text-section = (let a = section_of in let g = (or_false_both (bad_string a || eqb (length a) 0) (bad_name (symbol_of)) (good)).0 in not-false (is_text a) (or_false_both (bad_name a) (has_zero a) (or_false_both (bad_string a) (eqb (length a) 0) g).0).0) in
-    let short-section : long (section_of) ≡ false = (or_false_both (full) (long (section_of)) (room)).1 in
-    let text-symbol = (let a = section_of in not-false (is_text (symbol_of)) (or_false_both (bad_string a || eqb (length a) 0) (bad_name (symbol_of)) (good)).1) in
-    let short-symbol : long (symbol_of) ≡ false = (or_false_both (full || long (section_of)) (long (symbol_of)) (kept)).1 in
-    let m = leb-false 32 c.args.counts.programs (or_false_both (full) (long (section_of)) (room)).0 in
+    let text-section = (let a = section_of in let g = (or_false_both (bad_string a || eqb (length a) 0) (bad_name symbol_of) good).0 in not-false (is_text a) (or_false_both (bad_name a) (has_zero a) (or_false_both (bad_string a) (eqb (length a) 0) g).0).0) in
+    let short-section : long section_of ≡ false = (or_false_both full (long section_of) room).1 in
+    let text-symbol = (let a = section_of in not-false (is_text symbol_of) (or_false_both (bad_string a || eqb (length a) 0) (bad_name symbol_of) good).1) in
+    let short-symbol : long symbol_of ≡ false = (or_false_both (full || long section_of) (long symbol_of) kept).1 in
+    let m = leb-false 32 c.args.counts.programs (or_false_both full (long section_of) room).0 in
     λ s e. rw (c.name_at-section.ensures, c.name_at-symbol.ensures) (
-      goes s (frame) (bytes) c.requires.says
-          (at_none false (bad_program (section_of) (symbol_of)) (over s section_of symbol_of) refl (good) (over-is s c.args.counts section_of symbol_of e false (kept)))
-          ∙ named s (piece_name (first_piece)) (piece_name (second-piece)),
+      goes s frame bytes c.requires.says
+          (at_none false (bad_program section_of symbol_of) (over s section_of symbol_of) refl good (over-is s c.args.counts section_of symbol_of e false kept))
+          ∙ named s (piece_name first_piece) (piece_name second-piece),
       (
-        piece_named (first_piece) (omega (arith, c.requires.le_symbol)) (omega (arith, inside, c.requires.framed.last)) (text-section) (short-section),
-        piece_named (second-piece) (inside) c.requires.framed.last (text-symbol) (short-symbol),
+        piece_named first_piece (omega (arith, c.requires.le_symbol)) (omega (arith, inside, c.requires.framed.last)) text-section short-section,
+        piece_named second-piece inside c.requires.framed.last text-symbol short-symbol,
         omega (arith, e.programs),
       ),
-      c.requires.says ∙ same-frame (piece_name (first_piece)) (piece_name (second-piece)),
+      c.requires.says ∙ same-frame (piece_name first_piece) (piece_name second-piece),
     )

@@ -21,7 +21,7 @@ use Rattle.flaws.specs.Flaws.{flaw_told, limit_told}
 use Rattle.lookup.specs.Names.{FoundIn, found_told}
 use Rattle.judge.specs.declared.Counts.{Counts}
 use Rattle.judge.specs.Judged.{line_bytes, relocation_frame_of, Agrees}
-use Rattle.judge.proofs.Pieces.{rest, part_hex, part_bytes}
+use Rattle.judge.proofs.Pieces.{within, rest, part_hex, part_bytes}
 use Rattle.judge.proofs.Judge.{stops, goes, found, missing, at_5, at_6, at_none}
 use Rattle.judge.proofs.Relocation.{reading, looked}
 use Rattle.judge.proofs.judge_relocation.Goals as goal
@@ -47,121 +47,109 @@ relocated_at : {x y : ℕ} {a b : List ℕ} (s : Stage) (k : ℕ) → x ≡ y �
 relocated_at s k e f = rw (e, f)
 
 pub slice_bounds-name_flaw-count : goal.slice_bounds-name_flaw-count
-slice_bounds-name_flaw-count c =
-    let inside : c.args.at + 18 ≤ c.args.end = (let a = c.args in let f = c.requires.framed in omega (arith, c.requires.in_bounds, f.first, line_length a.text.now a.at a.end (omega (arith, f.first)) f.last f.hex)) in
-    omega (arith, inside)
+slice_bounds-name_flaw-count c = omega (arith, within c.args.text.now c.args.at c.args.end c.requires.framed 9 c.requires.in_bounds)
 
 pub slice_bounds-name_flaw-start : goal.slice_bounds-name_flaw-start
-slice_bounds-name_flaw-start c =
-    let inside : c.args.at + 18 ≤ c.args.end = (let a = c.args in let f = c.requires.framed in omega (arith, c.requires.in_bounds, f.first, line_length a.text.now a.at a.end (omega (arith, f.first)) f.last f.hex)) in
-    omega (arith, inside)
+slice_bounds-name_flaw-start c = omega (arith, within c.args.text.now c.args.at c.args.end c.requires.framed 9 c.requires.in_bounds)
 
 pub name_flaw-flaw-requires : goal.name_flaw-flaw-requires
 name_flaw-flaw-requires c =
-    let inside : c.args.at + 18 ≤ c.args.end = (let a = c.args in let f = c.requires.framed in omega (arith, c.requires.in_bounds, f.first, line_length a.text.now a.at a.end (omega (arith, f.first)) f.last f.hex)) in
-    let piece = (let a = c.args in rest a.text.now a.at a.end c.requires.framed 9 (a.at + 18) (omega arith) (inside)) in
-    part_hex (piece)
+    let inside = within c.args.text.now c.args.at c.args.end c.requires.framed 9 c.requires.in_bounds in
+    let piece = (let a = c.args in rest a.text.now a.at a.end c.requires.framed 9 (a.at + 18) (omega arith) inside) in
+    part_hex piece
 
 pub returns-in_default : goal.returns-in_default
 returns-in_default c =
     let bytes = line_bytes c.args.text.now c.args.at c.args.end in
-    let given = drop 9 (bytes) in
-    let frame = relocation_frame_of (bytes) in
+    let given = drop 9 bytes in
+    let frame = relocation_frame_of bytes in
     let says = c.requires.says in
-    let inside : c.args.at + 18 ≤ c.args.end = (let a = c.args in let f = c.requires.framed in omega (arith, c.requires.in_bounds, f.first, line_length a.text.now a.at a.end (omega (arith, f.first)) f.last f.hex)) in
-    let piece = (let a = c.args in rest a.text.now a.at a.end c.requires.framed 9 (a.at + 18) (omega arith) (inside)) in
-    let flaw = c.name_flaw-flaw.ensures ∙ ap (λ (x : List ℕ). told_if 5 (bad_name x)) (part_bytes (piece)) in
+    let inside = within c.args.text.now c.args.at c.args.end c.requires.framed 9 c.requires.in_bounds in
+    let piece = (let a = c.args in rest a.text.now a.at a.end c.requires.framed 9 (a.at + 18) (omega arith) inside) in
+    let flaw = c.name_flaw-flaw.ensures ∙ ap (λ (x : List ℕ). told_if 5 (bad_name x)) (part_bytes piece) in
     let t = given in
     λ s e h. (
-      stops s (frame) (bytes) (says) 5
+      stops s frame bytes says 5
           (at_5 (late s) (bad_name t) (over s given) (early s c.args.counts e c.if-counts-eq0.false) (told_holds 5 5 (bad_name t) (sym (ap flaw_told c.in_default.is) ∙ flaw))),
       omega (arith, e.lines),
     )
 
 pub slice_bounds-name_limit-count : goal.slice_bounds-name_limit-count
-slice_bounds-name_limit-count c =
-    let inside : c.args.at + 18 ≤ c.args.end = (let a = c.args in let f = c.requires.framed in omega (arith, c.requires.in_bounds, f.first, line_length a.text.now a.at a.end (omega (arith, f.first)) f.last f.hex)) in
-    omega (arith, inside)
+slice_bounds-name_limit-count c = omega (arith, within c.args.text.now c.args.at c.args.end c.requires.framed 9 c.requires.in_bounds)
 
 pub slice_bounds-name_limit-start : goal.slice_bounds-name_limit-start
-slice_bounds-name_limit-start c =
-    let inside : c.args.at + 18 ≤ c.args.end = (let a = c.args in let f = c.requires.framed in omega (arith, c.requires.in_bounds, f.first, line_length a.text.now a.at a.end (omega (arith, f.first)) f.last f.hex)) in
-    omega (arith, inside)
+slice_bounds-name_limit-start c = omega (arith, within c.args.text.now c.args.at c.args.end c.requires.framed 9 c.requires.in_bounds)
 
 pub name_limit-limit-requires : goal.name_limit-limit-requires
 name_limit-limit-requires c =
-    let inside : c.args.at + 18 ≤ c.args.end = (let a = c.args in let f = c.requires.framed in omega (arith, c.requires.in_bounds, f.first, line_length a.text.now a.at a.end (omega (arith, f.first)) f.last f.hex)) in
-    let piece = (let a = c.args in rest a.text.now a.at a.end c.requires.framed 9 (a.at + 18) (omega arith) (inside)) in
-    part_hex (piece)
+    let inside = within c.args.text.now c.args.at c.args.end c.requires.framed 9 c.requires.in_bounds in
+    let piece = (let a = c.args in rest a.text.now a.at a.end c.requires.framed 9 (a.at + 18) (omega arith) inside) in
+    part_hex piece
 
 pub returns-in_default-limit : goal.returns-in_default-limit
 returns-in_default-limit c =
     let bytes = line_bytes c.args.text.now c.args.at c.args.end in
-    let frame = relocation_frame_of (bytes) in
+    let frame = relocation_frame_of bytes in
     let says = c.requires.says in
-    let given = drop 9 (bytes) in
-    let inside : c.args.at + 18 ≤ c.args.end = (let a = c.args in let f = c.requires.framed in omega (arith, c.requires.in_bounds, f.first, line_length a.text.now a.at a.end (omega (arith, f.first)) f.last f.hex)) in
-    let piece = (let a = c.args in rest a.text.now a.at a.end c.requires.framed 9 (a.at + 18) (omega arith) (inside)) in
-    let flaw = c.name_flaw-flaw.ensures ∙ ap (λ (x : List ℕ). told_if 5 (bad_name x)) (part_bytes (piece)) in
+    let given = drop 9 bytes in
+    let inside = within c.args.text.now c.args.at c.args.end c.requires.framed 9 c.requires.in_bounds in
+    let piece = (let a = c.args in rest a.text.now a.at a.end c.requires.framed 9 (a.at + 18) (omega arith) inside) in
+    let flaw = c.name_flaw-flaw.ensures ∙ ap (λ (x : List ℕ). told_if 5 (bad_name x)) (part_bytes piece) in
     let good = told_free 5 _ (sym (ap flaw_told c.in-Good.is) ∙ flaw) in
     let full = leb 256 c.args.counts.relocs in
-    let limit = c.name_limit-limit.ensures ∙ ap (λ (x : List ℕ). told_if 6 (full || long x)) (part_bytes (piece)) in
+    let limit = c.name_limit-limit.ensures ∙ ap (λ (x : List ℕ). told_if 6 (full || long x)) (part_bytes piece) in
     λ s e h. (
-      stops s (frame) (bytes) (says) 6
-          (at_6 (late s) (bad_name (given)) (over s given) (early s c.args.counts e c.if-counts-eq0.false) (good)
-          (over-is s c.args.counts given e true (told_holds 6 6 (full || long (given)) (sym (ap limit_told c.in_default-limit.is) ∙ limit)))),
+      stops s frame bytes says 6
+          (at_6 (late s) (bad_name given) (over s given) (early s c.args.counts e c.if-counts-eq0.false) good
+          (over-is s c.args.counts given e true (told_holds 6 6 (full || long given) (sym (ap limit_told c.in_default-limit.is) ∙ limit)))),
       omega (arith, e.lines),
     )
 
 pub slice_bounds-find_map-count : goal.slice_bounds-find_map-count
-slice_bounds-find_map-count c =
-    let inside : c.args.at + 18 ≤ c.args.end = (let a = c.args in let f = c.requires.framed in omega (arith, c.requires.in_bounds, f.first, line_length a.text.now a.at a.end (omega (arith, f.first)) f.last f.hex)) in
-    omega (arith, inside)
+slice_bounds-find_map-count c = omega (arith, within c.args.text.now c.args.at c.args.end c.requires.framed 9 c.requires.in_bounds)
 
 pub slice_bounds-find_map-start : goal.slice_bounds-find_map-start
-slice_bounds-find_map-start c =
-    let inside : c.args.at + 18 ≤ c.args.end = (let a = c.args in let f = c.requires.framed in omega (arith, c.requires.in_bounds, f.first, line_length a.text.now a.at a.end (omega (arith, f.first)) f.last f.hex)) in
-    omega (arith, inside)
+slice_bounds-find_map-start c = omega (arith, within c.args.text.now c.args.at c.args.end c.requires.framed 9 c.requires.in_bounds)
 
 pub find_map-found-requires : goal.find_map-found-requires
 find_map-found-requires c =
-    let inside : c.args.at + 18 ≤ c.args.end = (let a = c.args in let f = c.requires.framed in omega (arith, c.requires.in_bounds, f.first, line_length a.text.now a.at a.end (omega (arith, f.first)) f.last f.hex)) in
-    let piece = (let a = c.args in rest a.text.now a.at a.end c.requires.framed 9 (a.at + 18) (omega arith) (inside)) in record {
-      name_value = part_hex (piece);
+    let inside = within c.args.text.now c.args.at c.args.end c.requires.framed 9 c.requires.in_bounds in
+    let piece = (let a = c.args in rest a.text.now a.at a.end c.requires.framed 9 (a.at + 18) (omega arith) inside) in record {
+      name_value = part_hex piece;
       names = c.requires.names;
     }
 
 pub returns-in_default-found : goal.returns-in_default-found
 returns-in_default-found c =
     let bytes = line_bytes c.args.text.now c.args.at c.args.end in
-    let frame = relocation_frame_of (bytes) in
+    let frame = relocation_frame_of bytes in
     let says = c.requires.says in
     let opened : c.args.counts.programs ≡ 0 → ⊥ = c.if-counts-eq0.false in
-    let given = drop 9 (bytes) in
-    let inside : c.args.at + 18 ≤ c.args.end = (let a = c.args in let f = c.requires.framed in omega (arith, c.requires.in_bounds, f.first, line_length a.text.now a.at a.end (omega (arith, f.first)) f.last f.hex)) in
-    let piece = (let a = c.args in rest a.text.now a.at a.end c.requires.framed 9 (a.at + 18) (omega arith) (inside)) in
-    let flaw = c.name_flaw-flaw.ensures ∙ ap (λ (x : List ℕ). told_if 5 (bad_name x)) (part_bytes (piece)) in
+    let given = drop 9 bytes in
+    let inside = within c.args.text.now c.args.at c.args.end c.requires.framed 9 c.requires.in_bounds in
+    let piece = (let a = c.args in rest a.text.now a.at a.end c.requires.framed 9 (a.at + 18) (omega arith) inside) in
+    let flaw = c.name_flaw-flaw.ensures ∙ ap (λ (x : List ℕ). told_if 5 (bad_name x)) (part_bytes piece) in
     let good = told_free 5 _ (sym (ap flaw_told c.in-Good.is) ∙ flaw) in
     let full = leb 256 c.args.counts.relocs in
-    let limit = c.name_limit-limit.ensures ∙ ap (λ (x : List ℕ). told_if 6 (full || long x)) (part_bytes (piece)) in
+    let limit = c.name_limit-limit.ensures ∙ ap (λ (x : List ℕ). told_if 6 (full || long x)) (part_bytes piece) in
     let kept = told_free 6 _ (sym (ap limit_told c.in-Kept.is) ∙ limit) in
-    let offset = value (take 8 (drop 1 (bytes))) in
+    let offset = value (take 8 (drop 1 bytes)) in
     λ s e h. (
-      goes s (frame) (bytes) (says) ((at_none (late s) (bad_name (given)) (over s given) (early s c.args.counts e (opened)) (good) (over-is s c.args.counts given e false (kept))))
-          ∙ missing s (offset) (given) (told_none 7 7 _ (sym (ap found_told c.in_default-found.is) ∙ (looked c.args.text.now c.args.ats.now c.args.lens.now c.args.counts.maps (take (c.args.end - (c.args.at + 18)) (drop (c.args.at + 18) c.args.text.now)) (given) c.find_map-found.result s (part_bytes (piece)) e.maps h c.find_map-found.ensures.finds))),
+      goes s frame bytes says ((at_none (late s) (bad_name given) (over s given) (early s c.args.counts e opened) good (over-is s c.args.counts given e false kept)))
+          ∙ missing s offset given (told_none 7 7 _ (sym (ap found_told c.in_default-found.is) ∙ (looked c.args.text.now c.args.ats.now c.args.lens.now c.args.counts.maps (take (c.args.end - (c.args.at + 18)) (drop (c.args.at + 18) c.args.text.now)) given c.find_map-found.result s (part_bytes piece) e.maps h c.find_map-found.ensures.finds))),
       omega (arith, e.lines),
     )
 
 pub slot_at-requires : goal.slot_at-requires
 slot_at-requires c =
-    let inside : c.args.at + 18 ≤ c.args.end = (let a = c.args in let f = c.requires.framed in omega (arith, c.requires.in_bounds, f.first, line_length a.text.now a.at a.end (omega (arith, f.first)) f.last f.hex)) in
+    let inside = within c.args.text.now c.args.at c.args.end c.requires.framed 9 c.requires.in_bounds in
     let bytes = line_bytes c.args.text.now c.args.at c.args.end in
-    let given = drop 9 (bytes) in
+    let given = drop 9 bytes in
     let full = leb 256 c.args.counts.relocs in
-    let piece = (let a = c.args in rest a.text.now a.at a.end c.requires.framed 9 (a.at + 18) (omega arith) (inside)) in
-    let limit = c.name_limit-limit.ensures ∙ ap (λ (x : List ℕ). told_if 6 (full || long x)) (part_bytes (piece)) in
+    let piece = (let a = c.args in rest a.text.now a.at a.end c.requires.framed 9 (a.at + 18) (omega arith) inside) in
+    let limit = c.name_limit-limit.ensures ∙ ap (λ (x : List ℕ). told_if 6 (full || long x)) (part_bytes piece) in
     let kept = told_free 6 _ (sym (ap limit_told c.in-Kept.is) ∙ limit) in
-    let short : c.args.end ≤ c.args.at + 18 + 128 = omega (arith, ltb-false 64 (length (given)) (or_false_both (full) (long (given)) (kept)).1, (piece).count, (piece).even) in
+    let short : c.args.end ≤ c.args.at + 18 + 128 = omega (arith, ltb-false 64 (length given) (or_false_both full (long given) kept).1, piece.count, piece.even) in
     let i : c.in-At.map < c.args.counts.maps = subst (FoundIn c.args.counts.maps) c.in-At.is c.find_map-found.ensures.found_in in record {
       at_bound = inside;
       end_bound = omega (arith, c.requires.framed.few, c.requires.framed.last);
@@ -173,25 +161,25 @@ pub returns : goal.returns
 returns c =
     let full = leb 256 c.args.counts.relocs in
     let bytes = line_bytes c.args.text.now c.args.at c.args.end in
-    let given = drop 9 (bytes) in
-    let inside : c.args.at + 18 ≤ c.args.end = (let a = c.args in let f = c.requires.framed in omega (arith, c.requires.in_bounds, f.first, line_length a.text.now a.at a.end (omega (arith, f.first)) f.last f.hex)) in
-    let piece = (let a = c.args in rest a.text.now a.at a.end c.requires.framed 9 (a.at + 18) (omega arith) (inside)) in
-    let limit = c.name_limit-limit.ensures ∙ ap (λ (x : List ℕ). told_if 6 (full || long x)) (part_bytes (piece)) in
+    let given = drop 9 bytes in
+    let inside = within c.args.text.now c.args.at c.args.end c.requires.framed 9 c.requires.in_bounds in
+    let piece = (let a = c.args in rest a.text.now a.at a.end c.requires.framed 9 (a.at + 18) (omega arith) inside) in
+    let limit = c.name_limit-limit.ensures ∙ ap (λ (x : List ℕ). told_if 6 (full || long x)) (part_bytes piece) in
     let kept = told_free 6 _ (sym (ap limit_told c.in-Kept.is) ∙ limit) in
-    let frame = relocation_frame_of (bytes) in
+    let frame = relocation_frame_of bytes in
     let says = c.requires.says in
     let opened : c.args.counts.programs ≡ 0 → ⊥ = c.if-counts-eq0.false in
-    let flaw = c.name_flaw-flaw.ensures ∙ ap (λ (x : List ℕ). told_if 5 (bad_name x)) (part_bytes (piece)) in
+    let flaw = c.name_flaw-flaw.ensures ∙ ap (λ (x : List ℕ). told_if 5 (bad_name x)) (part_bytes piece) in
     let good = told_free 5 _ (sym (ap flaw_told c.in-Good.is) ∙ flaw) in
-    let offset = value (take 8 (drop 1 (bytes))) in
-    let short : c.args.end ≤ c.args.at + 18 + 128 = omega (arith, ltb-false 64 (length (given)) (or_false_both (full) (long (given)) (kept)).1, (piece).count, (piece).even) in
+    let offset = value (take 8 (drop 1 bytes)) in
+    let short : c.args.end ≤ c.args.at + 18 + 128 = omega (arith, ltb-false 64 (length given) (or_false_both full (long given) kept).1, piece.count, piece.even) in
     let a = c.args in
-    let n = leb-false 256 a.counts.relocs (or_false_both (full) (long (given)) (kept)).0 in
+    let n = leb-false 256 a.counts.relocs (or_false_both full (long given) kept).0 in
     λ s e h.
-    let l = told-there 7 _ _ (sym (ap found_told c.in-At.is) ∙ (looked c.args.text.now c.args.ats.now c.args.lens.now c.args.counts.maps (take (c.args.end - (c.args.at + 18)) (drop (c.args.at + 18) c.args.text.now)) (given) c.find_map-found.result s (part_bytes (piece)) e.maps h c.find_map-found.ensures.finds)) in
-    let r = reading a.text.now a.at a.end c.requires.framed (inside) in
+    let l = told-there 7 _ _ (sym (ap found_told c.in-At.is) ∙ (looked c.args.text.now c.args.ats.now c.args.lens.now c.args.counts.maps (take (c.args.end - (c.args.at + 18)) (drop (c.args.at + 18) c.args.text.now)) given c.find_map-found.result s (part_bytes piece) e.maps h c.find_map-found.ensures.finds)) in
+    let r = reading a.text.now a.at a.end c.requires.framed inside in
     rw c.slot_at.ensures (
-      goes s (frame) (bytes) (says) ((at_none (late s) (bad_name (given)) (over s given) (early s c.args.counts e (opened)) (good) (over-is s c.args.counts given e false (kept)))) ∙ found s (offset) (given) c.in-At.map l
+      goes s frame bytes says ((at_none (late s) (bad_name given) (over s given) (early s c.args.counts e opened) good (over-is s c.args.counts given e false kept))) ∙ found s offset given c.in-At.map l
           ∙ relocated_at s c.in-At.map (ap value (sym r.offset)) (sym r.name),
       refl,
       record {
@@ -202,6 +190,6 @@ returns c =
       },
       omega (arith, e.relocs),
       omega (arith, e.programs, opened),
-      ap frame_code (says),
+      ap frame_code says,
       says ∙ same_frame (ap value (sym r.offset)) (sym r.name),
     )
