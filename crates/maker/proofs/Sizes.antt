@@ -100,6 +100,10 @@ module _ (text : List ℕ) (o : BpfObject) (k : Kept text o) where
     pub count_is_lem : m.count ≡ suc (length (sections_of (job_in text o)))
     count_is_lem = ap (λ (x : Measured). x.count) e
 
+    -- how many headers the object has
+    pub few_headers : (1 ≤ m.count) × (m.count ≤ 71)
+    few_headers = (omega (arith, count_is_lem), omega (arith, count_is_lem, few_sections))
+
     pub ends_before : end_of 64 (all_pieces text o) ≤ m.at
     ends_before = omega (arith, table_at, align_up 8 (end_of 64 (all_pieces text o)) (omega arith))
 

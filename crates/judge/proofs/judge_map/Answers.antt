@@ -11,7 +11,6 @@ use borrow.Author.Tests.{not-false, le-ltb, ltb-false, leb-false}
 use Rattle.octets.specs.Told.{told_if}
 use Rattle.octets.proofs.Told.{told_holds, told_free}
 use Rattle.octets.proofs.Tests.{or_false_both}
-use Rattle.lines.proofs.Parts.{line_length}
 use Rattle.utf8.specs.Utf8.{is_text}
 use Rattle.refusals.specs.Checked.{Stage, long, bad_name, added}
 use Rattle.flaws.specs.Flaws.{flaw_told, limit_told}

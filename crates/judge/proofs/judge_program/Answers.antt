@@ -3,7 +3,7 @@ use mathlib.Core.Path.{◌≡◌, refl, sym, ◌∙◌, ap}
 use mathlib.Core.Bool.{Bool, true, false, ◌||◌}
 use mathlib.Core.Option.{some}
 use mathlib.Core.List.{List}
-use Prim.Native.Nat.{ℕ, ◌+◌, ◌-◌, ◌*◌, ◌≤◌}
+use Prim.Native.Nat.{ℕ, ◌+◌, ◌-◌, ◌*◌}
 use native.Mathlib.Omega.{arith}
 use lib.Dec.{leb, eqb}
 use lib.ListN.{length, take, drop}
@@ -11,7 +11,6 @@ use borrow.Author.Tests.{not-false, ltb-false, leb-false}
 use Rattle.octets.specs.Told.{told_if}
 use Rattle.octets.proofs.Told.{told_holds, told_free}
 use Rattle.octets.proofs.Tests.{or_false_both}
-use Rattle.lines.proofs.Parts.{line_length}
 use Rattle.utf8.specs.Utf8.{is_text, has_zero}
 use Rattle.frames.specs.Frames.{program}
 use Rattle.refusals.specs.Checked.{Stage, long, bad_name, bad_string, bad_program, added}

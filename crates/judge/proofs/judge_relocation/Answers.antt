@@ -12,7 +12,6 @@ use Rattle.octets.specs.Octets.{value}
 use Rattle.octets.specs.Told.{told_if}
 use Rattle.octets.proofs.Told.{told-there, told_none, told_holds, told_free}
 use Rattle.octets.proofs.Tests.{or_false_both}
-use Rattle.lines.proofs.Parts.{line_length}
 use Rattle.ast.specs.Job.{last_map}
 use Rattle.frames.specs.Frames.{relocation}
 use Rattle.object.specs.Read.{frame_code}

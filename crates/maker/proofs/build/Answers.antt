@@ -1,7 +1,7 @@
 -- `maker::build` meets its contract. Assumes nothing.
 use mathlib.Core.Path.{◌≡◌, refl, ◌∙◌, ap}
 use mathlib.Core.List.{List}
-use Prim.Native.Nat.{ℕ, ◌-◌, ◌*◌, ◌≤◌}
+use Prim.Native.Nat.{ℕ, ◌-◌, ◌*◌}
 use native.Mathlib.Omega.{arith}
 use lib.ListN.{take, drop}
 use borrow.Rule.Slice.PartMut.{mid_len}
@@ -10,29 +10,29 @@ use Rattle.named.proofs.Names.{over-front}
 use Rattle.elf.specs.Headers.{headers_bytes}
 use Rattle.measure.specs.declared.Measured.{Measured}
 use Rattle.measure.specs.Measured.{rows_of}
-use Rattle.maker.proofs.Sizes.{few_sections, count_is_lem, headers_long}
+use Rattle.maker.proofs.Sizes.{few_headers, headers_long}
 use Rattle.maker.proofs.build.Goals as goal
 
 pub overflow_mul-headers : goal.overflow_mul-headers
 overflow_mul-headers c =
     let is = c.measure-measured.ensures.value in
-    let few : c.measure-measured.result.count ≤ 71 = (let a = c.args in omega (arith, count_is_lem a.text.now a.object c.requires c.measure-measured.result (is), few_sections a.text.now a.object c.requires)) in
+    let few = few_headers c.args.text.now c.args.object c.requires c.measure-measured.result is in
     omega (arith, few)
 
 pub slice_bounds-encode-end-2 : goal.slice_bounds-encode-end-2
 slice_bounds-encode-end-2 c =
     let is = c.measure-measured.ensures.value in
-    let few : c.measure-measured.result.count ≤ 71 = (let a = c.args in omega (arith, count_is_lem a.text.now a.object c.requires c.measure-measured.result (is), few_sections a.text.now a.object c.requires)) in
+    let few = few_headers c.args.text.now c.args.object c.requires c.measure-measured.result is in
     omega (arith, few)
 
 pub encode-requires : goal.encode-requires
 encode-requires c =
     let is = c.measure-measured.ensures.value in
-    let long = ap (λ (m : Measured). m.len) (is) in
+    let long = ap (λ (m : Measured). m.len) is in
     let a = c.args in
     let n = c.measure-measured.result.len in
     let k : n - 0 ≡ n = omega arith in
-    let size = headers_long a.text.now a.object c.requires c.measure-measured.result (is) in
+    let size = headers_long a.text.now a.object c.requires c.measure-measured.result is in
     let part = mid_len 0 n a.out.now (omega (arith, c.if-out-len.false)) ∙ k in record {
       lent = record { kept = c.requires; ats_are = refl; lens_are = refl };
       sizes_of = c.weigh-weighed.ensures.sizes_of;
