@@ -3,15 +3,15 @@ use Rattle.std.specs.Prelude.{cond, List, [], ◌∷◌, ℕ, suc}
 use Rattle.std.proofs.Math.Option.{Option, none, some}
 use Rattle.octets.specs.Octets.{equal}
 use Rattle.ast.specs.declared.MapType.{MapType}
-use Rattle.ast.specs.declared.TypeAttr.{TypeAttr}
-use Rattle.ast.specs.declared.CountAttr.{CountAttr}
+use Rattle.ast.specs.declared.Attr.{Attr}
+use Rattle.ast.specs.declared.«Type».{«Type» as MemberType}
 
 pub record Map : Type 0 where
   pub name : List ℕ
   pub kind : MapType
-  pub key : TypeAttr
-  pub value : TypeAttr
-  pub entries : CountAttr
+  pub key : Attr MemberType
+  pub value : Attr MemberType
+  pub entries : Attr ℕ
 
 -- a place in the code, the raw name of the map that belongs there, and the number of that map among the job's maps
 pub record Relocation : Type 0 where

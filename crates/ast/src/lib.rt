@@ -2,6 +2,15 @@
 // present with 0.
 #![tactic(auto)]
 
+ghost use Rattle.std.specs.Prelude.{◌≡◌};
+ghost use Rattle.octets.specs.Told.{told};
+ghost use Rattle.ast.specs.Numbers.{map_type_numbered, member_type_numbered};
+ghost use Rattle.ast.specs.Listed.{listed_told};
+
+// A number that no type has.
+#[derive(Clone, Copy)]
+pub struct Unlisted {}
+
 // A key's or a value's type.
 #[derive(Clone, Copy)]
 pub enum Type {
@@ -9,6 +18,22 @@ pub enum Type {
     U64,
     I32,
     I64,
+}
+
+impl TryFrom<u8> for Type {
+    type Error = Unlisted;
+
+    ghost try_from_gives = { λ n r. listed_told r ≡ told 3 (member_type_numbered n) };
+
+    fn try_from(n: u8) -> Result<Self, Unlisted> {
+        match n {
+            1 => Ok(Type::U32),
+            2 => Ok(Type::U64),
+            3 => Ok(Type::I32),
+            4 => Ok(Type::I64),
+            _ => Err(Unlisted {}),
+        }
+    }
 }
 
 #[derive(Clone, Copy)]
@@ -20,18 +45,28 @@ pub enum MapType {
     Ringbuf,
 }
 
-// A key's or a value's type that a declaration may leave out.
-#[derive(Clone, Copy)]
-pub enum TypeAttr {
-    Absent,
-    Present(Type),
+impl TryFrom<u8> for MapType {
+    type Error = Unlisted;
+
+    ghost try_from_gives = { λ n r. listed_told r ≡ told 3 (map_type_numbered n) };
+
+    fn try_from(n: u8) -> Result<Self, Unlisted> {
+        match n {
+            1 => Ok(MapType::Hash),
+            2 => Ok(MapType::Array),
+            3 => Ok(MapType::ProgArray),
+            9 => Ok(MapType::LruHash),
+            27 => Ok(MapType::Ringbuf),
+            _ => Err(Unlisted {}),
+        }
+    }
 }
 
-// A number that a declaration may leave out.
+// An attribute that a declaration may leave out: a key's or a value's type, or a number of entries.
 #[derive(Clone, Copy)]
-pub enum CountAttr {
+pub enum Attr<T> {
     Absent,
-    Present(u32),
+    Present(T),
 }
 
 // A name: the place of its first character in the job's text, and how many bytes it has. A text has at most 65,535 characters, a name at
@@ -47,11 +82,18 @@ impl Name {
     pub const LONGEST: usize = 64;
 }
 
-// A map's declaration. Its name is kept beside it, as a place in the job's text.
+// A map's declaration.
 #[derive(Clone, Copy)]
 pub struct MapDecl {
     pub map_type: MapType,
-    pub key_type: TypeAttr,
-    pub value_type: TypeAttr,
-    pub max_entries: CountAttr,
+    pub key_type: Attr<Type>,
+    pub value_type: Attr<Type>,
+    pub max_entries: Attr<u32>,
+}
+
+// A map's declaration under its name.
+#[derive(Clone, Copy)]
+pub struct NamedMap {
+    pub decl: MapDecl,
+    pub name: Name,
 }

@@ -16,14 +16,12 @@ use Rattle.ast.specs.declared.«Type».{«Type» as MemberType}
 use Rattle.ast.specs.declared.«Type».TheVariants.{U32, U64, I32, I64}
 use Rattle.ast.specs.declared.MapType.{MapType}
 use Rattle.ast.specs.declared.MapType.TheVariants.{Hash, Array, ProgArray, LruHash, Ringbuf}
-use Rattle.ast.specs.declared.TypeAttr.{TypeAttr}
-use Rattle.ast.specs.declared.TypeAttr.TheVariants as type
-use Rattle.ast.specs.declared.CountAttr.{CountAttr}
-use Rattle.ast.specs.declared.CountAttr.TheVariants as count
+use Rattle.ast.specs.declared.Attr.{Attr}
+use Rattle.ast.specs.declared.Attr.TheVariants.{Absent, Present}
 use Rattle.elf.specs.Row.{size_of}
 use Rattle.elf.proofs.Strings.{size_append}
 use Rattle.btf.specs.Btf.{BtfType, ptr, array, struct, var, datasec, btf_bytes}
-use Rattle.btf.specs.Maps.{int_id, type_id, int_types, Attributes, add_number, add_type_attr, add_count_attr, attributes, type_count, count_count, map_size, map_types, btf_types}
+use Rattle.btf.specs.Maps.{int_id, type_id, int_types, Attributes, add_number, add_pointer, add_attr, attributes, attr_count, map_size, map_types, btf_types}
 use Rattle.btf.proofs.Types.{FitMember, FitVar, FitType, weigh, weigh_append, length_btf}
 
 -- ---- ids and sizes
@@ -35,29 +33,26 @@ Follows first a = a.next ≡ first + length a.types
 follows_number : (first : ℕ) (name : List ℕ) (n : ℕ) (a : Attributes) → Follows first a → Follows first (add_number name n a)
 follows_number first name n a h = omega (arith, length-append a.types (array int_id int_id n ∷ ptr a.next ∷ []))
 
-follows_type : (first : ℕ) (name : List ℕ) (t : TypeAttr) (a : Attributes) → Follows first a → Follows first (add_type_attr name t a)
-follows_type first name type.Absent a h = h
-follows_type first name (type.Present t) a h = omega (arith, length-append a.types (ptr (type_id t) ∷ []))
+follows_pointer : (first : ℕ) (name : List ℕ) (t : MemberType) (a : Attributes) → Follows first a → Follows first (add_pointer name t a)
+follows_pointer first name t a h = omega (arith, length-append a.types (ptr (type_id t) ∷ []))
 
-follows_count : (first : ℕ) (name : List ℕ) (e : CountAttr) (a : Attributes) → Follows first a → Follows first (add_count_attr name e a)
-follows_count first name count.Absent a h = h
-follows_count first name (count.Present n) a h = follows_number first name n a h
+follows_attr : {A : Type 0} (first : ℕ) (add : List ℕ → A → Attributes → Attributes) → ((name : List ℕ) (x : A) (a : Attributes) → Follows first a → Follows first (add name x a))
+    → (name : List ℕ) (attr : Attr A) (a : Attributes) → Follows first a → Follows first (add_attr add name attr a)
+follows_attr first add f name Absent a h = h
+follows_attr first add f name (Present x) a h = f name x a h
 
 pub attributes-next : (next : ℕ) (m : Map) → (attributes next m).next ≡ next + length (attributes next m).types
 attributes-next next m =
-    follows_count next (ascii "max_entries") m.entries _
-    (follows_type next (ascii "value") m.value _ (follows_type next (ascii "key") m.key _ (omega arith)))
+    let pointer = follows_attr next add_pointer (follows_pointer next) in
+    follows_attr next add_number (follows_number next) (ascii "max_entries") m.entries _
+    (pointer (ascii "value") m.value _ (pointer (ascii "key") m.key _ (omega arith)))
 
-type_count_lem : (t : TypeAttr) → type_count t ≤ 1
-type_count_lem type.Absent = omega arith
-type_count_lem (type.Present t) = omega arith
-
-count_count_lem : (e : CountAttr) → count_count e ≤ 1
-count_count_lem count.Absent = omega arith
-count_count_lem (count.Present n) = omega arith
+attr_count_lem : {A : Type 0} (attr : Attr A) → attr_count attr ≤ 1
+attr_count_lem Absent = omega arith
+attr_count_lem (Present x) = omega arith
 
 pub map_size_lem : (m : Map) → (8 ≤ map_size m) × (map_size m ≤ 32)
-map_size_lem m = omega (arith, type_count_lem m.key, type_count_lem m.value, count_count_lem m.entries)
+map_size_lem m = omega (arith, attr_count_lem m.key, attr_count_lem m.value, attr_count_lem m.entries)
 
 pub count_vars : (next at : ℕ) (ms : List Map) → length (map_types next at ms).vars ≡ length ms
 count_vars next at [] = refl
@@ -117,19 +112,18 @@ type_id_lem U64 = omega arith
 type_id_lem I32 = omega arith
 type_id_lem I64 = omega arith
 
-good_type : (a : Attributes) (n c w : ℕ) → Good a n c w → (name : List ℕ) → Clean name → length name ≤ 11 → (t : TypeAttr) → n < 2 ^ 31
-    → Good (add_type_attr name t a) (n + 1) (c + 1) (w + 12)
-good_type a n c w g name clean short type.Absent b = good_none a n c w g name clean short 1 12
-good_type a n c w g name clean short (type.Present t) b =
+good_pointer : (a : Attributes) (n c w : ℕ) → Good a n c w → (name : List ℕ) → Clean name → length name ≤ 11 → (t : MemberType) → n < 2 ^ 31
+    → Good (add_pointer name t a) (n + 1) (c + 1) (w + 12)
+good_pointer a n c w g name clean short t b =
     let h = g.next in
     good_more a n c w g name clean short a.next (ptr (type_id t) ∷ []) (a.next + 1) 1 12 (omega arith)
     (record { numbers = type_id_lem t; clean = tt }, tt) (omega arith) (omega arith)
 
-good_count : (a : Attributes) (n c w : ℕ) → Good a n c w → (name : List ℕ) → Clean name → length name ≤ 11 → (e : CountAttr)
-    → ((x : ℕ) → e ≡ count.Present x → x < 2 ^ 32) → n < 2 ^ 31
-    → Good (add_count_attr name e a) (n + 2) (c + 1) (w + 36)
-good_count a n c w g name clean short count.Absent f b = good_none a n c w g name clean short 2 36
-good_count a n c w g name clean short (count.Present x) f b = good_number a n c w g name clean short x (f x refl) b
+good_attr : {A : Type 0} (add : List ℕ → A → Attributes → Attributes) (k v : ℕ) (a : Attributes) (n c w : ℕ) → Good a n c w → (name : List ℕ) → Clean name → length name ≤ 11
+    → (attr : Attr A) → ((x : A) → attr ≡ Present x → Good (add name x a) (n + k) (c + 1) (w + v))
+    → Good (add_attr add name attr a) (n + k) (c + 1) (w + v)
+good_attr add k v a n c w g name clean short Absent f = good_none a n c w g name clean short k v
+good_attr add k v a n c w g name clean short (Present x) f = f x refl
 
 map_number : (k : MapType) → map_type_number k < 2 ^ 32
 map_number Hash = omega arith
@@ -138,24 +132,27 @@ map_number ProgArray = omega arith
 map_number LruHash = omega arith
 map_number Ringbuf = omega arith
 
-good_attributes : (next : ℕ) (m : Map) → ((x : ℕ) → m.entries ≡ count.Present x → x < 2 ^ 32) → next < 2 ^ 30
+good_attributes : (next : ℕ) (m : Map) → ((x : ℕ) → m.entries ≡ Present x → x < 2 ^ 32) → next < 2 ^ 30
     → Good (attributes next m) (next + 2 + 1 + 1 + 2) 4 96
 good_attributes next m f b =
-    good_count _ _ _ _
-    (good_type _ _ _ _
-    (good_type _ _ _ _
-    (good_number (record { next = next; types = []; members = [] }) next 0 0
+    let typed =
+    good_number (record { next = next; types = []; members = [] }) next 0 0
     (record { next = omega arith; number = omega arith; types = tt; weight = omega arith; members = tt; clean = tt; names = omega arith })
-    (ascii "type") refl (omega arith) (map_type_number m.kind) (map_number m.kind) (omega arith))
-    (ascii "key") refl (omega arith) m.key (omega arith))
-    (ascii "value") refl (omega arith) m.value (omega arith))
-    (ascii "max_entries") refl (omega arith) m.entries f (omega arith)
+    (ascii "type") refl (omega arith) (map_type_number m.kind) (map_number m.kind) (omega arith) in
+    let keyed =
+    good_attr add_pointer 1 12 _ _ _ _ typed (ascii "key") refl (omega arith) m.key
+    (λ t e. good_pointer _ _ _ _ typed (ascii "key") refl (omega arith) t (omega arith)) in
+    let valued =
+    good_attr add_pointer 1 12 _ _ _ _ keyed (ascii "value") refl (omega arith) m.value
+    (λ t e. good_pointer _ _ _ _ keyed (ascii "value") refl (omega arith) t (omega arith)) in
+    good_attr add_number 2 36 _ _ _ _ valued (ascii "max_entries") refl (omega arith) m.entries
+    (λ x e. good_number _ _ _ _ valued (ascii "max_entries") refl (omega arith) x (f x e) (omega arith))
 
 -- ---- all maps
 
 pub record FitMap (m : Map) : Type 0 where
   pub name : length m.name ≤ 64
-  pub entries : (x : ℕ) → m.entries ≡ count.Present x → x < 2 ^ 32
+  pub entries : (x : ℕ) → m.entries ≡ Present x → x < 2 ^ 32
 
 pub record FitMaps (next at : ℕ) (ms : List Map) : Type 0 where
   pub types : All FitType (map_types next at ms).types

@@ -8,10 +8,8 @@ use Rattle.ast.specs.Numbers.{map_type_number}
 use Rattle.btf.specs.Btf.{BtfType, int, ptr, array, struct, var, datasec, Member, Var}
 use Rattle.ast.specs.declared.«Type».{«Type» as MemberType}
 use Rattle.ast.specs.declared.«Type».TheVariants.{U32, U64, I32, I64}
-use Rattle.ast.specs.declared.TypeAttr.{TypeAttr}
-use Rattle.ast.specs.declared.TypeAttr.TheVariants as type
-use Rattle.ast.specs.declared.CountAttr.{CountAttr}
-use Rattle.ast.specs.declared.CountAttr.TheVariants as count
+use Rattle.ast.specs.declared.Attr.{Attr}
+use Rattle.ast.specs.declared.Attr.TheVariants.{Absent, Present}
 
 -- the ids of BTF's first five types, and those of a key's or a value's type
 abbrev pub int_id : ℕ
@@ -40,42 +38,34 @@ add_number name n a =
       members = a.members ++ (record { name = name; type_id = a.next + 1 } ∷ []);
     }
 
-abbrev pub add_pointer : List ℕ → ℕ → Attributes → Attributes
+abbrev pub add_pointer : List ℕ → MemberType → Attributes → Attributes
 add_pointer name t a =
     record {
       next = a.next + 1;
-      types = a.types ++ (ptr t ∷ []);
+      types = a.types ++ (ptr (type_id t) ∷ []);
       members = a.members ++ (record { name = name; type_id = a.next } ∷ []);
     }
 
-abbrev pub add_type_attr : List ℕ → TypeAttr → Attributes → Attributes
-add_type_attr name type.Absent a = a
-add_type_attr name (type.Present t) a = add_pointer name (type_id t) a
-
-abbrev pub add_count_attr : List ℕ → CountAttr → Attributes → Attributes
-add_count_attr name count.Absent a = a
-add_count_attr name (count.Present n) a = add_number name n a
-
 -- an attribute that nobody declared has no member
+abbrev pub add_attr : {A : Type 0} → (List ℕ → A → Attributes → Attributes) → List ℕ → Attr A → Attributes → Attributes
+add_attr add name Absent a = a
+add_attr add name (Present x) a = add name x a
+
 abbrev pub attributes : ℕ → Map → Attributes
 attributes next m =
-    add_count_attr (ascii "max_entries") m.entries
-    (add_type_attr (ascii "value") m.value
-    (add_type_attr (ascii "key") m.key
+    add_attr add_number (ascii "max_entries") m.entries
+    (add_attr add_pointer (ascii "value") m.value
+    (add_attr add_pointer (ascii "key") m.key
     (add_number (ascii "type") (map_type_number m.kind) (record { next = next; types = []; members = [] }))))
 
--- how many attributes of each kind are declared
-abbrev pub type_count : TypeAttr → ℕ
-type_count type.Absent = 0
-type_count (type.Present t) = 1
-
-abbrev pub count_count : CountAttr → ℕ
-count_count count.Absent = 0
-count_count (count.Present n) = 1
+-- how many attributes are declared: one or none
+abbrev pub attr_count : {A : Type 0} → Attr A → ℕ
+attr_count Absent = 0
+attr_count (Present x) = 1
 
 -- map room: 8 bytes for each attribute, type included (`btf_map_size`)
-abbrev pub map_room : TypeAttr → TypeAttr → CountAttr → ℕ
-map_room key value entries = 8 * (1 + type_count key + type_count value + count_count entries)
+abbrev pub map_room : Attr MemberType → Attr MemberType → Attr ℕ → ℕ
+map_room key value entries = 8 * (1 + attr_count key + attr_count value + attr_count entries)
 
 abbrev pub map_size : Map → ℕ
 map_size m = map_room m.key m.value m.entries

@@ -5,10 +5,10 @@ ghost use Rattle.std.specs.Prelude.{◌≡◌, [], ◌∷◌, ◌+◌, ◌*◌, 
 ghost use Rattle.octets.specs.Over.{over};
 ghost use Rattle.btf.specs.Btf.{info, type_bytes, int, ptr, array, var};
 ghost use Rattle.ast.specs.Numbers.{map_type_number};
-ghost use Rattle.btf.specs.Maps.{map_room, type_count, count_count};
+ghost use Rattle.btf.specs.Maps.{map_room, attr_count};
 ghost use Rattle.btf.specs.Builder.{words, new_builder, moved, passed, membered, entered, Within};
 
-use ast::{CountAttr, MapDecl, MapType, TypeAttr};
+use ast::{Attr, MapDecl, MapType};
 
 // A type's info word: its kind, and how many parts follow.
 pub fn btf_info(kind: u32, vlen: u32) -> u32
@@ -33,23 +33,13 @@ pub fn map_type_num(map_type: MapType) -> u32
 }
 
 // 1 for an attribute that is declared, 0 for one that is not.
-fn type_count(attr: TypeAttr) -> u32
-    ensures value { result ≡ type_count attr }
+fn attr_count<T: Copy>(attr: Attr<T>) -> u32
+    ensures value { result ≡ attr_count attr }
     ensures upper_bound { result ≤ 1 }
 {
     match attr {
-        TypeAttr::Absent => 0,
-        TypeAttr::Present(_) => 1,
-    }
-}
-
-fn count_count(attr: CountAttr) -> u32
-    ensures value { result ≡ count_count attr }
-    ensures upper_bound { result ≤ 1 }
-{
-    match attr {
-        CountAttr::Absent => 0,
-        CountAttr::Present(_) => 1,
+        Attr::Absent => 0,
+        Attr::Present(_) => 1,
     }
 }
 
@@ -57,13 +47,10 @@ fn count_count(attr: CountAttr) -> u32
 pub fn btf_map_size(map: MapDecl) -> u32
     ensures { result ≡ map_room map.key_type map.value_type map.max_entries }
 {
-    let key = map.key_type;
-    let value = map.value_type;
-    let entries = map.max_entries;
     let mut fields = 1;
-    fields += type_count(key);
-    fields += type_count(value);
-    fields += count_count(entries);
+    fields += attr_count(map.key_type);
+    fields += attr_count(map.value_type);
+    fields += attr_count(map.max_entries);
     fields * BtfBuilder::ROOM
 }
 
@@ -73,11 +60,9 @@ fn put_words(out: &mut [u8], at: usize, values: &[u64])
     ensures { out.new ≡ over out.old at (words values.now) }
 {
     let mut place = at;
-    let mut i = 0;
-    while i < values.len() {
-        octets::put_at(out, place, BtfBuilder::WORD, values[i]);
+    for value in values {
+        octets::put_at(out, place, BtfBuilder::WORD, *value);
         place += BtfBuilder::WORD;
-        i += 1;
     }
 }
 
@@ -207,6 +192,33 @@ impl BtfBuilder {
         }
     }
 
+    // The builder behind a type of `size` bytes that has no name.
+    fn past_type(self, size: usize) -> Self
+        requires at_bound { self.at + size < 2 ^ 64 }
+        requires next_bound { self.next_type_id + 1 < 2 ^ 32 }
+        ensures { result ≡ passed self size 1 }
+    {
+        BtfBuilder {
+            at: self.at + size,
+            next_type_id: self.next_type_id + 1,
+            ..self
+        }
+    }
+
+    // The same behind a type whose name has `name` bytes.
+    fn past_named(self, size: usize, name: usize) -> Self
+        requires at_bound { self.at + size < 2 ^ 64 }
+        requires strings_bound { self.strings + (name + 1) < 2 ^ 64 }
+        requires next_bound { self.next_type_id + 1 < 2 ^ 32 }
+        ensures { result ≡ moved self size (name + 1) 1 }
+    {
+        BtfBuilder {
+            at: self.at + size,
+            strings: self.strings + (name + 1),
+            next_type_id: self.next_type_id + 1,
+        }
+    }
+
     // An integer type of `size` bytes, whose name has `name` bytes.
     pub fn add_int(self, out: &mut [u8], name: usize, size: u32, encoding: u32) -> Self
         requires { Within (moved self 16 (name + 1) 1) (length out.old) }
@@ -222,11 +234,7 @@ impl BtfBuilder {
             0,
             &[size as u64, data],
         );
-        BtfBuilder {
-            at: self.at + BtfBuilder::INT_SIZE,
-            strings: self.strings + (name + 1),
-            next_type_id: self.next_type_id + 1,
-        }
+        self.past_named(BtfBuilder::INT_SIZE, name)
     }
 
     // A pointer to the type `pointee_type`.
@@ -243,11 +251,7 @@ impl BtfBuilder {
             0,
             &[pointee_type as u64],
         );
-        BtfBuilder {
-            at: self.at + BtfBuilder::TYPE_SIZE,
-            strings: self.strings,
-            next_type_id: self.next_type_id + 1,
-        }
+        self.past_type(BtfBuilder::TYPE_SIZE)
     }
 
     // An array of `nelems` elements.
@@ -258,11 +262,7 @@ impl BtfBuilder {
     {
         let rest = [0u64, elem_type as u64, index_type as u64, nelems as u64];
         put_type(out, self.at, 0, BtfBuilder::KIND_ARRAY, 0, &rest);
-        BtfBuilder {
-            at: self.at + BtfBuilder::ARRAY_SIZE,
-            strings: self.strings,
-            next_type_id: self.next_type_id + 1,
-        }
+        self.past_type(BtfBuilder::ARRAY_SIZE)
     }
 
     // A struct of `vlen` members, each of 8 bytes; the members follow, each by `add_member`.
@@ -280,11 +280,7 @@ impl BtfBuilder {
             vlen,
             &[(BtfBuilder::ROOM * vlen) as u64],
         );
-        BtfBuilder {
-            at: self.at + BtfBuilder::TYPE_SIZE,
-            strings: self.strings,
-            next_type_id: self.next_type_id + 1,
-        }
+        self.past_type(BtfBuilder::TYPE_SIZE)
     }
 
     // The struct's member at `position`, whose name has `name` bytes. Each member before it takes 64 bits.
@@ -305,7 +301,7 @@ impl BtfBuilder {
         BtfBuilder {
             at: self.at + BtfBuilder::MEMBER_SIZE,
             strings: self.strings + (name + 1),
-            next_type_id: self.next_type_id,
+            ..self
         }
     }
 
@@ -317,11 +313,7 @@ impl BtfBuilder {
     {
         let rest = [typ as u64, BtfBuilder::VAR_GLOBAL_ALLOCATED];
         put_type(out, self.at, self.strings, BtfBuilder::KIND_VAR, 0, &rest);
-        BtfBuilder {
-            at: self.at + BtfBuilder::VAR_SIZE,
-            strings: self.strings + (name + 1),
-            next_type_id: self.next_type_id + 1,
-        }
+        self.past_named(BtfBuilder::VAR_SIZE, name)
     }
 
     // A section of `size` bytes with `vlen` variables, whose name has `name` bytes; the entries follow, each by `add_entry`.
@@ -339,11 +331,7 @@ impl BtfBuilder {
             vlen,
             &[size as u64],
         );
-        BtfBuilder {
-            at: self.at + BtfBuilder::TYPE_SIZE,
-            strings: self.strings + (name + 1),
-            next_type_id: self.next_type_id + 1,
-        }
+        self.past_named(BtfBuilder::TYPE_SIZE, name)
     }
 
     // The section's entry for a variable: its id, and the place and the size of what it names.
@@ -355,8 +343,7 @@ impl BtfBuilder {
         put_words(out, self.at, &[typ as u64, offset as u64, size as u64]);
         BtfBuilder {
             at: self.at + BtfBuilder::ENTRY_SIZE,
-            strings: self.strings,
-            next_type_id: self.next_type_id,
+            ..self
         }
     }
 }

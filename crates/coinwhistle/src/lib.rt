@@ -6,35 +6,35 @@ ghost use Rattle.job.specs.Answer.{answer, output_after};
 ghost use Rattle.maker.specs.Made.{outcome, outcome_of};
 ghost use Rattle.coinwhistle.specs.Told.{number_told, line_told, length_told};
 
-use maker::Making;
+use refusals::Refusal;
 
 // The number of a refusal, 0 for an object.
-fn number_of(made: Making) -> u32
+fn number_of(made: Result<usize, Refusal>) -> u32
     ensures { result ≡ number_told (outcome_of made) }
 {
     match made {
-        Making::Made(_) => 0,
-        Making::Refused(refusal) => refusal.number(),
+        Ok(_) => 0,
+        Err(refusal) => refusal.number(),
     }
 }
 
 // The line that a refusal is about, 0 if it is about none.
-fn line_of(made: Making) -> usize
+fn line_of(made: Result<usize, Refusal>) -> usize
     ensures { result ≡ line_told (outcome_of made) }
 {
     match made {
-        Making::Made(_) => 0,
-        Making::Refused(refusal) => refusal.line(),
+        Ok(_) => 0,
+        Err(refusal) => refusal.line(),
     }
 }
 
 // The length of the object, or the length that a refusal asks for.
-fn needed_of(made: Making) -> usize
+fn needed_of(made: Result<usize, Refusal>) -> usize
     ensures { result ≡ length_told (outcome_of made) }
 {
     match made {
-        Making::Made(n) => n,
-        Making::Refused(refusal) => refusal.needed(),
+        Ok(n) => n,
+        Err(refusal) => refusal.needed(),
     }
 }
 
@@ -53,7 +53,7 @@ pub extern "C" fn coinwhistle_make(
     ensures out_after { out.new ≡ output_after (answer job.now (length out.old)) out.old }
 {
     let made = maker::make(job, out);
-    let Making::Made(n) = made else {
+    let Ok(n) = made else {
         *line = line_of(made);
         *len = needed_of(made);
         return number_of(made);

@@ -12,7 +12,8 @@ ghost use Rattle.contents.specs.Slots.{licence_len, slots_bytes, AllPlaced};
 
 use ast::Name;
 use elf::{Rel, Symbol};
-use object::{BpfObject, Entry, License, Slot};
+use lines::Hex;
+use object::{License, Slot};
 
 // The licence of a job that names none, `GPL`.
 #[derive(Clone, Copy)]
@@ -40,7 +41,10 @@ fn put_text(out: &mut [u8], text: &[u8], name: Name)
 {
     let from = name.at as usize;
     let n = name.len as usize;
-    lines::put_unhex(&mut out[0..n], &text[from..from + 2 * n]);
+    let hex = Hex {
+        chars: &text[from..from + 2 * n],
+    };
+    hex.put_unhex(&mut out[0..n]);
     octets::clear(&mut out[n..n + 1]);
 }
 
@@ -64,38 +68,31 @@ fn put_slot(out: &mut [u8], text: &[u8], place: usize, map: u8)
     requires out_len { length out.old ≡ 16 }
     ensures { out.new ≡ rel_bytes (value (bytes_at text.now place 8)) (2 + map) }
 {
-    let offset = lines::number_at(&text[place..place + 16], 0, 8);
+    let hex = Hex {
+        chars: &text[place..place + 16],
+    };
+    let offset = hex.number_at(0, 8);
     elf::put_rel(out, offset, Symbol::FIRST_MAP as u32 + map as u32);
 }
 
-// A program's relocations: the slots from `first` on, `count` of them, into a part of exactly their size.
-pub fn put_rels(
-    out: &mut [u8],
-    text: &[u8],
-    slots: [Slot; BpfObject::RELOCATIONS],
-    first: usize,
-    count: usize,
-)
-    requires count_bound { first + count ≤ 256 }
-    requires all_placed { AllPlaced text.now (take count (drop first slots)) }
-    requires out_len { length out.old ≡ 16 * count }
-    ensures { out.new ≡ slots_bytes text.now (take count (drop first slots)) }
+// A program's relocations, into a part of exactly their size. None of its slots is empty.
+pub fn put_rels(out: &mut [u8], text: &[u8], slots: &[Option<Slot>])
+    requires all_placed { AllPlaced text.now slots.now }
+    requires out_len { length out.old ≡ 16 * length slots.now }
+    ensures { out.new ≡ slots_bytes text.now slots.now }
 {
-    let mut i = 0;
     let mut at: usize = 0;
-    while i < count {
-        let slot = slots[first + i];
-        let entry = slot.entry;
-        let Entry::Taken = entry else {
+    for slot in slots {
+        let entry = *slot;
+        let Some(taken) = entry else {
             return;
         };
         put_slot(
             &mut out[at..at + Rel::SIZE],
             text,
-            slot.place as usize,
-            slot.map,
+            taken.place as usize,
+            taken.map,
         );
         at += Rel::SIZE;
-        i += 1;
     }
 }

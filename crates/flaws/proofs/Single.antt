@@ -1,13 +1,10 @@
 -- Single outcomes: two outcomes that meet the promise of a public function of this crate are equal.
 use mathlib.Core.Path.{◌≡◌, refl, sym, ◌∙◌}
-use Prim.Native.Nat.{ℕ}
-use native.Mathlib.Omega.{arith}
+use Rattle.std.specs.Prelude.{Result, Ok, Err}
 use Rattle.octets.proofs.Single.{OneResult}
 use Rattle.flaws.specs.Flaws.{flaw_told, limit_told}
-use Rattle.flaws.specs.declared.Flaw.{Flaw}
-use Rattle.flaws.specs.declared.Flaw.TheVariants.{Good, NotText}
-use Rattle.flaws.specs.declared.Limit.{Limit}
-use Rattle.flaws.specs.declared.Limit.TheVariants.{Kept, Over}
+use Rattle.flaws.specs.declared.NotText.{NotText}
+use Rattle.flaws.specs.declared.OverLimit.{OverLimit}
 use Rattle.flaws.proofs.name_flaw.Kinds as name_flaw_kinds
 use Rattle.flaws.proofs.name_flaw.Reads as name_flaw
 use Rattle.flaws.proofs.string_flaw.Kinds as string_flaw_kinds
@@ -20,17 +17,17 @@ use Rattle.flaws.proofs.program_limit.Kinds as program_limit_kinds
 use Rattle.flaws.proofs.program_limit.Reads as program_limit
 
 -- an answer is told by what it says
-flaw_one : (a b : Flaw) → flaw_told a ≡ flaw_told b → a ≡ b
-flaw_one Good Good e = refl
-flaw_one Good NotText e = let z : ◌≡◌ {A = ℕ} 0 1 = cc in absurd (omega arith)
-flaw_one NotText Good e = let z : ◌≡◌ {A = ℕ} 0 1 = cc in absurd (omega arith)
-flaw_one NotText NotText e = refl
+flaw_one : (a b : Result (Unit {0}) NotText) → flaw_told a ≡ flaw_told b → a ≡ b
+flaw_one (Ok u) (Ok v) e = refl
+flaw_one (Ok u) (Err d) e = cc
+flaw_one (Err d) (Ok v) e = cc
+flaw_one (Err d) (Err f) e = refl
 
-limit_one : (a b : Limit) → limit_told a ≡ limit_told b → a ≡ b
-limit_one Kept Kept e = refl
-limit_one Kept Over e = let z : ◌≡◌ {A = ℕ} 0 1 = cc in absurd (omega arith)
-limit_one Over Kept e = let z : ◌≡◌ {A = ℕ} 0 1 = cc in absurd (omega arith)
-limit_one Over Over e = refl
+limit_one : (a b : Result (Unit {0}) OverLimit) → limit_told a ≡ limit_told b → a ≡ b
+limit_one (Ok u) (Ok v) e = refl
+limit_one (Ok u) (Err d) e = cc
+limit_one (Err d) (Ok v) e = cc
+limit_one (Err d) (Err f) e = refl
 
 name_flaw_single : OneResult name_flaw_kinds.ps name_flaw_kinds.r name_flaw.Post
 name_flaw_single κs a z z' e e' p p' = flaw_one z z' (p ∙ sym p')

@@ -1,6 +1,5 @@
 -- What each answer of the code says of a frame's bytes `s`.
 use mathlib.Core.Path.{◌≡◌, refl, sym, ◌∙◌, ap}
-use mathlib.Core.Bool.{true}
 use mathlib.Core.Option.{Option, none, some}
 use mathlib.Core.List.{List, [], ◌∷◌}
 use Prim.Native.Nat.{ℕ, suc, ◌+◌, ◌-◌, ◌%◌, ◌≤◌, ◌<◌}
@@ -16,10 +15,9 @@ use Rattle.insn.specs.Insn.{insn_bytes}
 use Rattle.ast.specs.Numbers.{map_type_numbered, member_type_numbered}
 use Rattle.ast.specs.declared.«Type».{«Type» as MemberType}
 use Rattle.ast.specs.declared.MapType.{MapType}
-use Rattle.ast.specs.declared.TypeAttr.{TypeAttr}
-use Rattle.ast.specs.declared.TypeAttr.TheVariants as type
-use Rattle.ast.specs.declared.CountAttr.TheVariants as count
-use Rattle.frames.specs.Frames.{licence, map_decl, program, code, relocation, TypeRead, CountRead, bit, take_type, type_if, count_if, map_entries, map_attrs, map_frame, program_frame, relocation_frame, instruction_frame, frame_of}
+use Rattle.ast.specs.declared.Attr.{Attr}
+use Rattle.ast.specs.declared.Attr.TheVariants.{Present}
+use Rattle.frames.specs.Frames.{licence, map_decl, program, code, relocation, Read, bit, take_type, take_count, attr_if, map_entries, map_attrs, map_frame, program_frame, relocation_frame, instruction_frame, frame_of}
 
 module _ (s : List ℕ) where
   pub program_short : length s < 2 → none ≡ program_frame (drop 1 s)
@@ -73,40 +71,40 @@ pub take_none : (s : List ℕ) (at b : ℕ) → b ≡ get_or s at 0 → at < len
 take_none s at b q h e = rw (read_on s at h, ← q, e, take_type)
 
 pub take_some : (s : List ℕ) (at b : ℕ) (t : MemberType) → b ≡ get_or s at 0 → at < length s → member_type_numbered b ≡ some t
-    → some (record { attr = type.Present t; rest = drop (at + 1) s }) ≡ take_type (drop at s)
+    → some (record { attr = Present t; rest = drop (at + 1) s }) ≡ take_type (drop at s)
 take_some s at b t q h e = rw (read_on s at h, ← q, e, take_type)
 
 pub take_end : (s : List ℕ) (at : ℕ) → length s ≤ at → none ≡ take_type (drop at s)
 take_end s at h = rw (read_done s at h)
 
-pub count_none : (s : List ℕ) (at : ℕ) → length s - at < 4 → none ≡ count_if true (drop at s)
+pub count_none : (s : List ℕ) (at : ℕ) → length s - at < 4 → none ≡ take_count (drop at s)
 count_none s at h = let n : length (drop at s) < 4 = rw length-drop h in simp (lt-leb 4 (length (drop at s)) n)
 
 pub count_some : (s : List ℕ) (at n : ℕ) → 4 ≤ length s - at → n ≡ value (take 4 (drop at s))
-    → some (record { attr = count.Present n; rest = drop (at + 4) s }) ≡ count_if true (drop at s)
+    → some (record { attr = Present n; rest = drop (at + 4) s }) ≡ take_count (drop at s)
 count_some s at n h e = let k : 4 ≤ length (drop at s) = rw length-drop h in simp (le-leb 4 (length (drop at s)) k, drop-drop, e)
 
 -- ---- a map's frame, step by step
 
-module _ (t : MapType) (k v : TypeAttr) (p : ℕ) (bs : List ℕ) where
-  pub entries_none : none ≡ count_if (bit 4 p) bs → none ≡ map_entries t k v p bs
+module _ (t : MapType) (k v : Attr MemberType) (p : ℕ) (bs : List ℕ) where
+  pub entries_none : none ≡ attr_if take_count (bit 4 p) bs → none ≡ map_entries t k v p bs
   entries_none e = rw (← e, map_entries)
 
-  pub entries_some : (x : CountRead) → some x ≡ count_if (bit 4 p) bs → some (map_decl t k v x.attr x.rest) ≡ map_entries t k v p bs
+  pub entries_some : (x : Read ℕ) → some x ≡ attr_if take_count (bit 4 p) bs → some (map_decl t k v x.attr x.rest) ≡ map_entries t k v p bs
   entries_some x e = rw (← e, map_entries)
 
 module _ (t : MapType) (p : ℕ) (bs : List ℕ) where
-  first : (x : Option TypeRead) → x ≡ type_if (eqb (p % 2) 1) bs → type_if (bit 1 p) bs ≡ x
+  first : (x : Option (Read MemberType)) → x ≡ attr_if take_type (eqb (p % 2) 1) bs → attr_if take_type (bit 1 p) bs ≡ x
   first x e = simp div-one (sym e)
 
-  pub attrs_no_key : none ≡ type_if (eqb (p % 2) 1) bs → none ≡ map_attrs t p bs
+  pub attrs_no_key : none ≡ attr_if take_type (eqb (p % 2) 1) bs → none ≡ map_attrs t p bs
   attrs_no_key e = rw (first none e, map_attrs)
 
-  module _ (x : TypeRead) (e : some x ≡ type_if (eqb (p % 2) 1) bs) where
-    pub attrs_no_value : none ≡ type_if (bit 2 p) x.rest → none ≡ map_attrs t p bs
+  module _ (x : Read MemberType) (e : some x ≡ attr_if take_type (eqb (p % 2) 1) bs) where
+    pub attrs_no_value : none ≡ attr_if take_type (bit 2 p) x.rest → none ≡ map_attrs t p bs
     attrs_no_value e₂ = rw (first (some x) e, ← e₂, map_attrs)
 
-    pub attrs_types : (y : TypeRead) → some y ≡ type_if (bit 2 p) x.rest → map_entries t x.attr y.attr p y.rest ≡ map_attrs t p bs
+    pub attrs_types : (y : Read MemberType) → some y ≡ attr_if take_type (bit 2 p) x.rest → map_entries t x.attr y.attr p y.rest ≡ map_attrs t p bs
     attrs_types y e₂ = sym (rw (first (some x) e, ← e₂, map_attrs))
 
 module _ (s : List ℕ) (t p : ℕ) (is_t : t ≡ get_or s 1 0) (is_p : p ≡ get_or s 2 0) (h : 3 ≤ length s) where

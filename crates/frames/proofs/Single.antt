@@ -14,8 +14,7 @@ use Rattle.octets.specs.Told.{Told, gives, refuses}
 use Rattle.frames.specs.Shown.{shown, Placed, frame_told, PlacedRead}
 use Rattle.frames.specs.declared.Frame.{Frame}
 use Rattle.frames.specs.declared.Frame.TheVariants.{Licence, Map, Program, Code, Relocation, Instruction}
-use Rattle.frames.specs.declared.FrameRead.{FrameRead}
-use Rattle.frames.specs.declared.FrameRead.TheVariants.{Is, Bad}
+use Rattle.std.specs.Prelude.{Option, Some, None}
 use Rattle.frames.proofs.read_frame.Kinds as read_frame_kinds
 use Rattle.frames.proofs.read_frame.Reads as read_frame
 
@@ -29,9 +28,9 @@ answer bs (model.program section symbol) = Program (length bs - length symbol)
 answer bs (model.code bytes) = cond (eqb (suc (length bytes)) (length bs)) Code Instruction
 answer bs (model.relocation offset name) = Relocation
 
-abbrev read : List ℕ → Told model.Frame → FrameRead
-read bs (gives f) = Is (answer bs f)
-read bs (refuses n) = Bad
+abbrev read : List ℕ → Told model.Frame → Option Frame
+read bs (gives f) = Some (answer bs f)
+read bs (refuses n) = None
 
 -- the place of what is left after it
 place : (bs : List ℕ) (at : ℕ) → at ≤ length bs → length bs - length (drop at bs) ≡ at
@@ -45,9 +44,9 @@ answer-shown bs Code h = rw (eq-eqb (suc (length (drop 1 bs))) (length bs) (omeg
 answer-shown bs Relocation h = refl
 answer-shown bs Instruction h = rw (ne_eqb 9 (length bs) (λ e. omega arith))
 
-read_told : (bs : List ℕ) (r : FrameRead) → PlacedRead bs r → read bs (frame_told bs r) ≡ r
-read_told bs (Is f) h = ap Is (answer-shown bs f h)
-read_told bs Bad h = refl
+read_told : (bs : List ℕ) (r : Option Frame) → PlacedRead bs r → read bs (frame_told bs r) ≡ r
+read_told bs (Some f) h = ap Some (answer-shown bs f h)
+read_told bs None h = refl
 
 read_frame_single : OneResult read_frame_kinds.ps read_frame_kinds.r read_frame.Post
 read_frame_single κs a z z' e e' p p' = sym (read_told _ z p.1) ∙ ap (read _) (p.0 ∙ sym p'.0) ∙ read_told _ z' p'.1

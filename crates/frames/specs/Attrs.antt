@@ -1,42 +1,18 @@
--- What the readers of a map's numbers and attributes answer: a type, or an attribute with the rest of the frame after it, or refusal 3.
+-- What the readers of a map's attributes answer: an attribute with the rest of the frame after it, or refusal 3.
+use Rattle.std.specs.Prelude as code
 use Rattle.std.specs.Prelude.{List, ℕ, ◌≤◌, drop, length}
 use Rattle.octets.specs.Told.{Told, gives, refuses}
+use Rattle.ast.specs.declared.Attr.{Attr}
 use Rattle.frames.specs.Frames as model
-use Rattle.ast.specs.declared.«Type».{«Type» as MemberType}
-use Rattle.ast.specs.declared.MapType.{MapType}
-use Rattle.frames.specs.declared.KindRead.{KindRead}
-use Rattle.frames.specs.declared.KindRead.TheVariants as kind
-use Rattle.frames.specs.declared.NumberRead.{NumberRead}
-use Rattle.frames.specs.declared.NumberRead.TheVariants as number
-use Rattle.frames.specs.declared.TypeAnswer.{TypeAnswer}
-use Rattle.frames.specs.declared.TypeAnswer.TheVariants as type
-use Rattle.frames.specs.declared.TypeRead.{TypeRead}
-use Rattle.frames.specs.declared.CountAnswer.{CountAnswer}
-use Rattle.frames.specs.declared.CountAnswer.TheVariants as count
-use Rattle.frames.specs.declared.CountRead.{CountRead}
-
-abbrev pub kind_told : KindRead → Told MapType
-kind_told (kind.Is t) = gives t
-kind_told kind.Unlisted = refuses 3
-
-abbrev pub number_told : NumberRead → Told MemberType
-number_told (number.Is t) = gives t
-number_told number.Unlisted = refuses 3
+use Rattle.frames.specs.declared.Read.{Read}
 
 -- an attribute; the rest of the frame `bs` begins at byte `next`
-abbrev pub type_is : List ℕ → ℕ → TypeAnswer → Told model.TypeRead
-type_is bs next (type.Is a) = gives (record { attr = a; rest = drop next bs })
-type_is bs next type.Bad = refuses 3
+abbrev pub attr_is : {A : Type 0} → List ℕ → ℕ → code.Option (Attr A) → Told (model.Read A)
+attr_is bs next (code.Some a) = gives (record { attr = a; rest = drop next bs })
+attr_is bs next code.None = refuses 3
 
-abbrev pub type_told : List ℕ → TypeRead → Told model.TypeRead
-type_told bs r = type_is bs r.next r.answer
-
-abbrev pub count_is : List ℕ → ℕ → CountAnswer → Told model.CountRead
-count_is bs next (count.Is a) = gives (record { attr = a; rest = drop next bs })
-count_is bs next count.Bad = refuses 3
-
-abbrev pub count_told : List ℕ → CountRead → Told model.CountRead
-count_told bs r = count_is bs r.next r.answer
+abbrev pub attr_told : {A : Type 0} → List ℕ → Read A → Told (model.Read A)
+attr_told bs r = attr_is bs r.next r.answer
 
 -- the next byte is not before `at`, and within the frame
 abbrev pub Onward : ℕ → ℕ → List ℕ → Type 0

@@ -5,15 +5,14 @@ use Rattle.octets.specs.Octets.{value}
 use Rattle.insn.specs.Insn.{insn_bytes}
 use Rattle.ast.specs.Numbers.{map_type_numbered, member_type_numbered}
 use Rattle.ast.specs.declared.MapType.{MapType}
-use Rattle.ast.specs.declared.TypeAttr.{TypeAttr}
-use Rattle.ast.specs.declared.TypeAttr.TheVariants as type
-use Rattle.ast.specs.declared.CountAttr.{CountAttr}
-use Rattle.ast.specs.declared.CountAttr.TheVariants as count
+use Rattle.ast.specs.declared.Attr.{Attr}
+use Rattle.ast.specs.declared.«Type».{«Type» as MemberType}
+use Rattle.ast.specs.declared.Attr.TheVariants.{Absent, Present}
 
 -- what a line says: `map_decl kind key value entries name`, `program section symbol`, `relocation offset map`
 pub data Frame : Type 0 where
   licence : List ℕ → Frame
-  map_decl : MapType → TypeAttr → TypeAttr → CountAttr → List ℕ → Frame
+  map_decl : MapType → Attr MemberType → Attr MemberType → Attr ℕ → List ℕ → Frame
   program : List ℕ → List ℕ → Frame
   code : List ℕ → Frame
   relocation : ℕ → List ℕ → Frame
@@ -23,40 +22,35 @@ abbrev pub bit : ℕ → ℕ → Bool
 bit b p = eqb (p / b % 2) 1
 
 -- an attribute read from the front of a frame, and what is left of the frame
-pub record TypeRead : Type 0 where
-  pub attr : TypeAttr
+pub record Read (A : Type 0) : Type 0 where
+  pub attr : Attr A
   pub rest : List ℕ
 
-pub record CountRead : Type 0 where
-  pub attr : CountAttr
-  pub rest : List ℕ
-
--- an attribute at the front of what is left of a frame
-abbrev pub take_type : List ℕ → Option TypeRead
+-- a value at the front of what is left of a frame: a type, or a number of four bytes
+abbrev pub take_type : List ℕ → Option (Read MemberType)
 take_type [] = none
-take_type (b ∷ bs) = elim (member_type_numbered b) [ none ↦ none | some t ↦ some (record { attr = type.Present t; rest = bs }) ]
+take_type (b ∷ bs) = elim (member_type_numbered b) [ none ↦ none | some t ↦ some (record { attr = Present t; rest = bs }) ]
 
-abbrev pub type_if : Bool → List ℕ → Option TypeRead
-type_if true bs = take_type bs
-type_if false bs = some (record { attr = type.Absent; rest = bs })
+abbrev pub take_count : List ℕ → Option (Read ℕ)
+take_count bs = cond (leb 4 (length bs)) (some (record { attr = Present (value (take 4 bs)); rest = drop 4 bs })) none
 
-abbrev pub count_if : Bool → List ℕ → Option CountRead
-count_if true bs =
-    cond (leb 4 (length bs)) (some (record { attr = count.Present (value (take 4 bs)); rest = drop 4 bs })) none
-count_if false bs = some (record { attr = count.Absent; rest = bs })
+-- an attribute, if it is there
+abbrev pub attr_if : {A : Type 0} → (List ℕ → Option (Read A)) → Bool → List ℕ → Option (Read A)
+attr_if taken true bs = taken bs
+attr_if taken false bs = some (record { attr = Absent; rest = bs })
 
 -- after a map's types: max_entries if it is present, then the name
-abbrev pub map_entries : MapType → TypeAttr → TypeAttr → ℕ → List ℕ → Option Frame
+abbrev pub map_entries : MapType → Attr MemberType → Attr MemberType → ℕ → List ℕ → Option Frame
 map_entries t k v p bs =
-    elim (count_if (bit 4 p) bs) [ none ↦ none | some n ↦ some (map_decl t k v n.attr n.rest) ]
+    elim (attr_if take_count (bit 4 p) bs) [ none ↦ none | some n ↦ some (map_decl t k v n.attr n.rest) ]
 
 -- those present, in the order key, value, max_entries; then the name
 abbrev pub map_attrs : MapType → ℕ → List ℕ → Option Frame
 map_attrs t p bs =
-    elim (type_if (bit 1 p) bs) [
+    elim (attr_if take_type (bit 1 p) bs) [
       | none ↦ none
       | some k ↦
-          elim (type_if (bit 2 p) k.rest) [
+          elim (attr_if take_type (bit 2 p) k.rest) [
             | none ↦ none
             | some v ↦ map_entries t k.attr v.attr p v.rest
           ]

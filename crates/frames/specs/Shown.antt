@@ -1,14 +1,12 @@
 -- The code's answer as a frame of the definition: the answer has numbers and places, and the frame's lists are parts of the line's bytes
 -- `bs`. `Placed` says that the places are within those bytes.
-use Rattle.std.specs.Prelude.{List, ℕ, ◌-◌, ◌≤◌, length, take, drop, get_or}
+use Rattle.std.specs.Prelude.{Option, Some, None, ◌≡◌, List, ℕ, ◌-◌, ◌≤◌, length, take, drop, get_or}
 use Rattle.octets.specs.Octets.{value}
 use Rattle.octets.specs.Told.{Told, gives, refuses}
 use Rattle.insn.specs.Insn.{insn_bytes}
 use Rattle.frames.specs.Frames as model
 use Rattle.frames.specs.declared.Frame.{Frame}
 use Rattle.frames.specs.declared.Frame.TheVariants.{Licence, Map, Program, Code, Relocation, Instruction}
-use Rattle.frames.specs.declared.FrameRead.{FrameRead}
-use Rattle.frames.specs.declared.FrameRead.TheVariants.{Is, Bad}
 
 abbrev pub shown : List ℕ → Frame → model.Frame
 shown bs Licence = model.licence (drop 1 bs)
@@ -26,13 +24,13 @@ Placed bs (Map d at) = (3 ≤ at) × (at ≤ length bs)
 Placed bs (Program at) = (2 ≤ at) × (at ≤ length bs)
 Placed bs Code = 1 ≤ length bs
 Placed bs Relocation = 9 ≤ length bs
-Placed bs Instruction = 10 ≤ length bs
+Placed bs Instruction = length bs ≡ 10
 
 -- what reading a line says: its frame, or refusal 3
-abbrev pub frame_told : List ℕ → FrameRead → Told model.Frame
-frame_told bs (Is f) = gives (shown bs f)
-frame_told bs Bad = refuses 3
+abbrev pub frame_told : List ℕ → Option Frame → Told model.Frame
+frame_told bs (Some f) = gives (shown bs f)
+frame_told bs None = refuses 3
 
-abbrev pub PlacedRead : List ℕ → FrameRead → Type 0
-PlacedRead bs (Is f) = Placed bs f
-PlacedRead bs Bad = Unit
+abbrev pub PlacedRead : List ℕ → Option Frame → Type 0
+PlacedRead bs (Some f) = Placed bs f
+PlacedRead bs None = Unit

@@ -1,15 +1,17 @@
 // Frames: what a line of the job says, read from its hexadecimal. An answer has numbers and places; texts and code stay in the line.
 #![tactic(auto)]
 
-ghost use Rattle.std.specs.Prelude.{◌≡◌, true, ◌≤◌, length, drop};
+ghost use Rattle.std.specs.Prelude.{◌≡◌, List, ℕ, ◌≤◌, length, drop};
+ghost use Rattle.std.proofs.Math.Option as math;
 ghost use Rattle.octets.specs.Told.{told};
-ghost use Rattle.ast.specs.Numbers.{map_type_numbered, member_type_numbered};
-ghost use Rattle.lines.specs.Hex.{is_hex, bytes_in};
-ghost use Rattle.frames.specs.Frames.{program_frame, relocation_frame, instruction_frame, type_if, count_if, map_entries, map_attrs, map_frame, frame_of};
-ghost use Rattle.frames.specs.Attrs.{kind_told, number_told, type_told, count_told, Onward};
+ghost use Rattle.lines.specs.Bytes.{bytes};
+ghost use Rattle.frames.specs.Frames as model;
+ghost use Rattle.frames.specs.Frames.{program_frame, relocation_frame, instruction_frame, take_type, take_count, attr_if, map_entries, map_attrs, map_frame, frame_of};
+ghost use Rattle.frames.specs.Attrs.{attr_told, Onward};
 ghost use Rattle.frames.specs.Shown.{frame_told, PlacedRead};
 
-use ast::{CountAttr, MapDecl, MapType, Type, TypeAttr};
+use ast::{Attr, MapDecl, MapType, Type};
+use lines::Hex;
 
 // What a line says. Places are counted in bytes from the line's start.
 #[derive(Clone, Copy)]
@@ -24,260 +26,201 @@ pub enum Frame {
     Instruction,
 }
 
-// The frame of a line, or that its bytes give none.
-#[derive(Clone, Copy)]
-pub enum FrameRead {
-    Is(Frame),
-    Bad,
-}
-
-fn read_program(s: &[u8]) -> FrameRead
-    requires { is_hex s.now ≡ true }
-    ensures result_value { frame_told (bytes_in s.now) result ≡ told 3 (program_frame (drop 1 (bytes_in s.now))) }
-    ensures placed_read { PlacedRead (bytes_in s.now) result }
+fn read_program(line: Hex) -> Option<Frame>
+    ensures result_value { frame_told (bytes line.entry) result ≡ told 3 (program_frame (drop 1 (bytes line.entry))) }
+    ensures placed_read { PlacedRead (bytes line.entry) result }
 {
-    let len = s.len() / 2;
+    let len = line.len();
     if len < 2 {
-        return FrameRead::Bad;
+        return None;
     }
-    let n = lines::byte_at(s, 1) as usize;
+    let n = usize::from(line.byte_at(1));
     if n <= len - 2 {
-        return FrameRead::Is(Frame::Program { symbol: n + 2 });
+        return Some(Frame::Program { symbol: n + 2 });
     }
-    FrameRead::Bad
+    None
 }
 
-fn read_relocation(s: &[u8]) -> FrameRead
-    requires { is_hex s.now ≡ true }
-    ensures result_value { frame_told (bytes_in s.now) result ≡ told 3 (relocation_frame (drop 1 (bytes_in s.now))) }
-    ensures placed_read { PlacedRead (bytes_in s.now) result }
+fn read_relocation(line: Hex) -> Option<Frame>
+    ensures result_value { frame_told (bytes line.entry) result ≡ told 3 (relocation_frame (drop 1 (bytes line.entry))) }
+    ensures placed_read { PlacedRead (bytes line.entry) result }
 {
-    if s.len() / 2 < 9 {
-        return FrameRead::Bad;
+    if line.len() < 9 {
+        return None;
     }
-    FrameRead::Is(Frame::Relocation)
+    Some(Frame::Relocation)
 }
 
-fn read_instruction(s: &[u8]) -> FrameRead
-    requires s_value { is_hex s.now ≡ true }
-    requires in_bounds { 1 ≤ length s.now }
-    ensures result_value { frame_told (bytes_in s.now) result ≡ told 3 (instruction_frame (drop 1 (bytes_in s.now))) }
-    ensures placed_read { PlacedRead (bytes_in s.now) result }
+fn read_instruction(line: Hex) -> Option<Frame>
+    requires { 1 ≤ length (bytes line) }
+    ensures result_value { frame_told (bytes line.entry) result ≡ told 3 (instruction_frame (drop 1 (bytes line.entry))) }
+    ensures placed_read { PlacedRead (bytes line.entry) result }
 {
-    if s.len() / 2 == 10 {
-        return FrameRead::Is(Frame::Instruction);
+    if line.len() == 10 {
+        return Some(Frame::Instruction);
     }
-    FrameRead::Bad
+    None
 }
 
+// What was read of an attribute, and the byte at which the frame goes on. If the attribute is bad, that is the byte where it would begin.
 #[derive(Clone, Copy)]
-enum KindRead {
-    Is(MapType),
-    Unlisted,
-}
-
-// The map type of a number.
-fn map_type_of(n: u8) -> KindRead
-    ensures { kind_told result ≡ told 3 (map_type_numbered n) }
-{
-    match n {
-        1 => KindRead::Is(MapType::Hash),
-        2 => KindRead::Is(MapType::Array),
-        3 => KindRead::Is(MapType::ProgArray),
-        9 => KindRead::Is(MapType::LruHash),
-        27 => KindRead::Is(MapType::Ringbuf),
-        _ => KindRead::Unlisted,
-    }
-}
-
-#[derive(Clone, Copy)]
-enum NumberRead {
-    Is(Type),
-    Unlisted,
-}
-
-// The key's or value's type of a number.
-fn member_type_of(n: u8) -> NumberRead
-    ensures { number_told result ≡ told 3 (member_type_numbered n) }
-{
-    match n {
-        1 => NumberRead::Is(Type::U32),
-        2 => NumberRead::Is(Type::U64),
-        3 => NumberRead::Is(Type::I32),
-        4 => NumberRead::Is(Type::I64),
-        _ => NumberRead::Unlisted,
-    }
-}
-
-#[derive(Clone, Copy)]
-enum TypeAnswer {
-    Is(TypeAttr),
-    Bad,
-}
-
-// What was read of a type, and the byte at which the frame goes on. If the type is bad, that is the byte where it would begin.
-#[derive(Clone, Copy)]
-struct TypeRead {
-    answer: TypeAnswer,
+struct Read<T> {
+    answer: Option<Attr<T>>,
     next: usize,
 }
 
-// A type at byte `at`, if it is there.
-fn read_type(s: &[u8], at: usize, there: bool) -> TypeRead
-    requires s_value { is_hex s.now ≡ true }
-    requires at_in_bounds { at ≤ length (bytes_in s.now) }
-    ensures result_value { type_told (bytes_in s.now) result ≡ told 3 (type_if there (drop at (bytes_in s.now))) }
-    ensures onward { Onward at result.next (bytes_in s.now) }
+// The value of an attribute that is there.
+trait Value: Copy {
+    // What it is at the front of what is left of a frame.
+    ghost taken: { List ℕ → math.Option (model.Read Self) };
+
+    // The value at byte `at`.
+    fn read(line: Hex, at: usize) -> Read<Self>
+        requires { at ≤ length (bytes line) }
+        ensures result_value { attr_told (bytes line.entry) result ≡ told 3 (taken (drop at (bytes line.entry))) }
+        ensures onward { Onward at result.next (bytes line.entry) };
+}
+
+// A key's or a value's type is one byte.
+impl Value for Type {
+    ghost taken = { take_type };
+
+    fn read(line: Hex, at: usize) -> Read<Self> {
+        if at == line.len() {
+            return Read {
+                answer: None,
+                next: at,
+            };
+        }
+        let read = Type::try_from(line.byte_at(at));
+        let Ok(t) = read else {
+            return Read {
+                answer: None,
+                next: at,
+            };
+        };
+        Read {
+            answer: Some(Attr::Present(t)),
+            next: at + 1,
+        }
+    }
+}
+
+// A number of entries is four bytes.
+impl Value for u32 {
+    ghost taken = { take_count };
+
+    fn read(line: Hex, at: usize) -> Read<Self> {
+        if line.len() - at < 4 {
+            return Read {
+                answer: None,
+                next: at,
+            };
+        }
+        let number = line.number_at(at, 4) as u32;
+        Read {
+            answer: Some(Attr::Present(number)),
+            next: at + 4,
+        }
+    }
+}
+
+// The attribute at byte `at`, if it is there.
+fn read_attr<T: Value>(line: Hex, at: usize, there: bool) -> Read<T>
+    requires { at ≤ length (bytes line) }
+    ensures result_value { attr_told (bytes line.entry) result ≡ told 3 (attr_if T.taken there (drop at (bytes line.entry))) }
+    ensures onward { Onward at result.next (bytes line.entry) }
 {
-    if !there {
-        return TypeRead {
-            answer: TypeAnswer::Is(TypeAttr::Absent),
-            next: at,
-        };
+    if there {
+        return T::read(line, at);
     }
-    if at == s.len() / 2 {
-        return TypeRead {
-            answer: TypeAnswer::Bad,
-            next: at,
-        };
-    }
-    let read = member_type_of(lines::byte_at(s, at));
-    let NumberRead::Is(t) = read else {
-        return TypeRead {
-            answer: TypeAnswer::Bad,
-            next: at,
-        };
-    };
-    let next = at + 1;
-    TypeRead {
-        answer: TypeAnswer::Is(TypeAttr::Present(t)),
-        next,
-    }
-}
-
-#[derive(Clone, Copy)]
-enum CountAnswer {
-    Is(CountAttr),
-    Bad,
-}
-
-// The same for a number.
-#[derive(Clone, Copy)]
-struct CountRead {
-    answer: CountAnswer,
-    next: usize,
-}
-
-// A number of four bytes at byte `at`, if it is there.
-fn read_count(s: &[u8], at: usize, there: bool) -> CountRead
-    requires s_value { is_hex s.now ≡ true }
-    requires at_in_bounds { at ≤ length (bytes_in s.now) }
-    ensures result_value { count_told (bytes_in s.now) result ≡ told 3 (count_if there (drop at (bytes_in s.now))) }
-    ensures onward { Onward at result.next (bytes_in s.now) }
-{
-    if !there {
-        return CountRead {
-            answer: CountAnswer::Is(CountAttr::Absent),
-            next: at,
-        };
-    }
-    if s.len() / 2 - at < 4 {
-        return CountRead {
-            answer: CountAnswer::Bad,
-            next: at,
-        };
-    }
-    let number = lines::number_at(s, at, 4) as u32;
-    let next = at + 4;
-    CountRead {
-        answer: CountAnswer::Is(CountAttr::Present(number)),
-        next,
+    Read {
+        answer: Some(Attr::Absent),
+        next: at,
     }
 }
 
 // The number of entries at byte `at`, if the presence byte `p` says that it is there, and then the name.
 fn read_entries(
-    s: &[u8],
+    line: Hex,
     at: usize,
     p: u8,
     map_type: MapType,
-    key_type: TypeAttr,
-    value_type: TypeAttr,
-) -> FrameRead
-    requires s_value { is_hex s.now ≡ true }
-    requires le_at { (3 ≤ at) × (at ≤ length (bytes_in s.now)) }
-    ensures result_value { frame_told (bytes_in s.now) result ≡ told 3 (map_entries map_type key_type value_type p (drop at (bytes_in s.now))) }
-    ensures placed_read { PlacedRead (bytes_in s.now) result }
+    key_type: Attr<Type>,
+    value_type: Attr<Type>,
+) -> Option<Frame>
+    requires { (3 ≤ at) × (at ≤ length (bytes line)) }
+    ensures result_value { frame_told (bytes line.entry) result ≡ told 3 (map_entries map_type key_type value_type p (drop at (bytes line.entry))) }
+    ensures placed_read { PlacedRead (bytes line.entry) result }
 {
-    let read = read_count(s, at, p / 4 % 2 == 1);
+    let read = read_attr(line, at, p / 4 % 2 == 1);
     let answer = read.answer;
-    let CountAnswer::Is(max_entries) = answer else {
-        return FrameRead::Bad;
+    let Some(max_entries) = answer else {
+        return None;
     };
-    let name = read.next;
     let decl = MapDecl {
         map_type,
         key_type,
         value_type,
         max_entries,
     };
-    FrameRead::Is(Frame::Map { decl, name })
+    Some(Frame::Map {
+        decl,
+        name: read.next,
+    })
 }
 
 // The attributes that the presence byte `p` says are there, and then the name.
-fn read_attrs(s: &[u8], map_type: MapType, p: u8) -> FrameRead
-    requires s_value { is_hex s.now ≡ true }
-    requires in_bounds { 3 ≤ length (bytes_in s.now) }
-    ensures result_value { frame_told (bytes_in s.now) result ≡ told 3 (map_attrs map_type p (drop 3 (bytes_in s.now))) }
-    ensures placed_read { PlacedRead (bytes_in s.now) result }
+fn read_attrs(line: Hex, map_type: MapType, p: u8) -> Option<Frame>
+    requires { 3 ≤ length (bytes line) }
+    ensures result_value { frame_told (bytes line.entry) result ≡ told 3 (map_attrs map_type p (drop 3 (bytes line.entry))) }
+    ensures placed_read { PlacedRead (bytes line.entry) result }
 {
-    let first = read_type(s, 3, p % 2 == 1);
+    let first = read_attr(line, 3, p % 2 == 1);
     let key = first.answer;
-    let TypeAnswer::Is(key_type) = key else {
-        return FrameRead::Bad;
+    let Some(key_type) = key else {
+        return None;
     };
-    let second = read_type(s, first.next, p / 2 % 2 == 1);
+    let second = read_attr(line, first.next, p / 2 % 2 == 1);
     let value = second.answer;
-    let TypeAnswer::Is(value_type) = value else {
-        return FrameRead::Bad;
+    let Some(value_type) = value else {
+        return None;
     };
-    read_entries(s, second.next, p, map_type, key_type, value_type)
+    read_entries(line, second.next, p, map_type, key_type, value_type)
 }
 
-fn read_map(s: &[u8]) -> FrameRead
-    requires { is_hex s.now ≡ true }
-    ensures result_value { frame_told (bytes_in s.now) result ≡ told 3 (map_frame (drop 1 (bytes_in s.now))) }
-    ensures placed_read { PlacedRead (bytes_in s.now) result }
+fn read_map(line: Hex) -> Option<Frame>
+    ensures result_value { frame_told (bytes line.entry) result ≡ told 3 (map_frame (drop 1 (bytes line.entry))) }
+    ensures placed_read { PlacedRead (bytes line.entry) result }
 {
-    if s.len() / 2 < 3 {
-        return FrameRead::Bad;
+    if line.len() < 3 {
+        return None;
     }
-    let listed = map_type_of(lines::byte_at(s, 1));
-    let KindRead::Is(map_type) = listed else {
-        return FrameRead::Bad;
+    let listed = MapType::try_from(line.byte_at(1));
+    let Ok(map_type) = listed else {
+        return None;
     };
-    let p = lines::byte_at(s, 2);
+    let p = line.byte_at(2);
     if 7 < p {
-        return FrameRead::Bad;
+        return None;
     }
-    read_attrs(s, map_type, p)
+    read_attrs(line, map_type, p)
 }
 
-// The frame that the hexadecimal of a line gives.
-pub fn read_frame(s: &[u8]) -> FrameRead
-    requires s_value { is_hex s.now ≡ true }
-    requires in_bounds { 1 ≤ length s.now }
-    ensures result_value { frame_told (bytes_in s.now) result ≡ told 3 (frame_of (bytes_in s.now)) }
-    ensures placed_read { PlacedRead (bytes_in s.now) result }
+// The frame that a line's bytes give, if they give one.
+pub fn read_frame(line: Hex) -> Option<Frame>
+    requires { 1 ≤ length (bytes line) }
+    ensures result_value { frame_told (bytes line.entry) result ≡ told 3 (frame_of (bytes line.entry)) }
+    ensures placed_read { PlacedRead (bytes line.entry) result }
 {
-    let kind = lines::byte_at(s, 0);
+    let kind = line.byte_at(0);
     match kind {
-        1 => FrameRead::Is(Frame::Licence),
-        2 => read_map(s),
-        3 => read_program(s),
-        4 => FrameRead::Is(Frame::Code),
-        5 => read_relocation(s),
-        6 => read_instruction(s),
-        _ => FrameRead::Bad,
+        1 => Some(Frame::Licence),
+        2 => read_map(line),
+        3 => read_program(line),
+        4 => Some(Frame::Code),
+        5 => read_relocation(line),
+        6 => read_instruction(line),
+        _ => None,
     }
 }

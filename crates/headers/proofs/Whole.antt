@@ -5,15 +5,17 @@ use mathlib.Core.List.{List, [], ◌∷◌, ◌++◌, map, map-append, append_as
 use Prim.Native.Nat.{ℕ, ◌+◌, ◌-◌, ◌≤◌}
 use native.Mathlib.Omega.{arith}
 use lib.ListN.{length, take}
+use lib.Seq.{length-take-le}
 use lib.Dec.{eqb-suc-zero}
 use borrow.Rule.Slice.PartMut.{put_mid}
-use Rattle.octets.specs.Octets.{ascii}
+use Rattle.octets.specs.Octets.{zeros, ascii}
 use Rattle.octets.specs.Over.{over}
 use Rattle.octets.proofs.Filling.{Filling, fill_start, fill_as, fill_on, fill_done, over-part}
 use Rattle.ast.specs.Job.{Map, Relocation}
 use Rattle.elf.specs.Strings.{empty_table}
 use Rattle.elf.specs.Row.{joined}
 use Rattle.elf.proofs.Joined.{table-joined, joined-append}
+use Rattle.std.specs.Prelude.{Option}
 use Rattle.object.specs.declared.Slot.{Slot}
 use Rattle.object.specs.declared.Program.{Program}
 use Rattle.object.specs.declared.BpfObject.{BpfObject}
@@ -35,7 +37,7 @@ rel_names : (symtab at : ℕ) (name : List ℕ) (rs : List Relocation)
 rel_names symtab at name [] = refl
 rel_names symtab at name (r ∷ rs) = rw (eqb-suc-zero (length rs))
 
-program_section_names_lem : (symtab at : ℕ) (text : List ℕ) (slots : List Slot) (ps : List Program) → AllCounted text slots ps
+program_section_names_lem : (symtab at : ℕ) (text : List ℕ) (slots : List (Option Slot)) (ps : List Program) → AllCounted text slots ps
     → map (λ s. s.name) (program_sections symtab at (programs_in text slots ps)) ≡ program_section_names text ps
 program_section_names_lem symtab at text slots [] c = refl
 program_section_names_lem symtab at text slots (p ∷ ps) c =
@@ -74,22 +76,28 @@ module _ (text : List ℕ) (o : BpfObject) (k : Kept text o) where
       ∙ ap (λ (r : List ℕ). 0 ∷ (ascii "license" ++ (0 ∷ [])) ++ r)
       (joined-append map_named (program_named ++ table_names) ∙ ap (λ (r : List ℕ). joined map_named ++ r) (joined-append program_named table_names))
 
+  pub shstrtab_some : 1 ≤ length (shstrtab_of (job_in text o))
+  shstrtab_some = omega (arith, ap length shstrtab_is)
+
   -- what is still to come after each piece of `.shstrtab`, and the pieces one by one
-  abbrev after_programs : List ℕ
+  abbrev pub after_programs : List ℕ
   after_programs = joined table_names ++ []
 
-  abbrev after_maps : List ℕ
+  abbrev pub after_maps : List ℕ
   after_maps = joined program_named ++ after_programs
 
-  abbrev after_license : List ℕ
+  abbrev pub after_license : List ℕ
   after_license = joined map_named ++ after_maps
 
   abbrev after_zero : List ℕ
   after_zero = (ascii "license" ++ (0 ∷ [])) ++ after_license
 
-  pub names_zero : (out l : List ℕ) → length out ≡ length (shstrtab_of (job_in text o)) → l ≡ 0 ∷ [] → Filling (shstrtab_of (job_in text o)) (put_mid 0 (1 - 0) out l) 1 after_zero
+  pub names_zero : (out l : List ℕ) → length out ≡ length (shstrtab_of (job_in text o)) → l ≡ zeros (length (take 1 out))
+      → Filling (shstrtab_of (job_in text o)) (put_mid 0 (1 - 0) out l) 1 after_zero
   names_zero out l e q =
-      fill_on (0 ∷ []) after_zero (put_mid 0 (1 - 0) out l) 1 (fill_as _ shstrtab_is (fill_start (shstrtab_of (job_in text o)) out e)) (over-part out 0 1 l (0 ∷ []) refl q) refl
+      let one : length (take 1 out) ≡ 1 = length-take-le 1 out (omega (arith, shstrtab_some)) in
+      fill_on (0 ∷ []) after_zero (put_mid 0 (1 - 0) out l) 1 (fill_as _ shstrtab_is (fill_start (shstrtab_of (job_in text o)) out e))
+      (over-part out 0 1 l (0 ∷ []) refl (q ∙ ap zeros one)) refl
 
   pub names_license : (out out' : List ℕ) → Filling (shstrtab_of (job_in text o)) out 1 after_zero → out' ≡ over out 1 (ascii "license" ++ (0 ∷ []))
       → Filling (shstrtab_of (job_in text o)) out' 9 after_license
@@ -106,6 +114,3 @@ module _ (text : List ℕ) (o : BpfObject) (k : Kept text o) where
   pub names_tables : (out out' : List ℕ) (at : ℕ) → Filling (shstrtab_of (job_in text o)) out at after_programs → out' ≡ over out at (joined table_names)
       → out' ≡ shstrtab_of (job_in text o)
   names_tables out out' at f e = fill_done (fill_on (joined table_names) [] out' (at + length (joined table_names)) f e refl)
-
-  pub shstrtab_some : 1 ≤ length (shstrtab_of (job_in text o))
-  shstrtab_some = omega (arith, ap length shstrtab_is)

@@ -1,7 +1,7 @@
 // `.shstrtab`, the names of the object's sections in their order.
 #![tactic(auto)]
 
-ghost use Rattle.std.specs.Prelude.{◌≡◌, [], ◌∷◌, ◌++◌, ◌+◌, ◌*◌, ◌≤◌, length, take};
+ghost use Rattle.std.specs.Prelude.{◌≡◌, [], ◌∷◌, ◌++◌, ◌+◌, ◌*◌, ◌≤◌, length};
 ghost use Rattle.octets.specs.Octets.{ascii};
 ghost use Rattle.octets.specs.Over.{over};
 ghost use Rattle.elf.specs.Row.{joined};
@@ -52,24 +52,15 @@ fn put_map_sections(out: &mut [u8], at: usize, maps: usize) -> usize
 
 // The names of the programs' sections from `start` on, each followed by that of its REL section if it has one; returns the place after
 // them.
-fn put_program_sections(
-    out: &mut [u8],
-    start: usize,
-    text: &[u8],
-    programs: [Program; BpfObject::PROGRAMS],
-    count: usize,
-) -> usize
-    requires programs_there { ProgramsThere text.now programs count }
-    requires programs_in_bounds { start + length (joined (program_section_names text.now (take count programs))) ≤ length out.old }
-    ensures out_after { out.new ≡ over out.old start (joined (program_section_names text.now (take count programs))) }
-    ensures value { result ≡ start + length (joined (program_section_names text.now (take count programs))) }
+fn put_program_sections(out: &mut [u8], start: usize, text: &[u8], programs: &[Program]) -> usize
+    requires programs_there { ProgramsThere text.now programs.now }
+    requires programs_in_bounds { start + length (joined (program_section_names text.now programs.now)) ≤ length out.old }
+    ensures out_after { out.new ≡ over out.old start (joined (program_section_names text.now programs.now)) }
+    ensures value { result ≡ start + length (joined (program_section_names text.now programs.now)) }
 {
     let mut at = start;
-    let mut i = 0;
-    while i < count {
-        let program = programs[i];
+    for program in programs {
         at = put_section(out, at, text, program.section);
-        i += 1;
         if program.relocs != 0 {
             at = put_rel_name(out, at, text, program.section);
         }
@@ -88,15 +79,14 @@ fn put_table_names(out: &mut [u8], at: usize)
 }
 
 // `.shstrtab`, into a part of exactly its length.
-pub fn build_shstrtab(out: &mut [u8], text: &[u8], object: BpfObject)
-    requires kept { Kept text.now object }
-    requires out_len { length out.old ≡ length (shstrtab_of (job_in text.now object)) }
-    ensures { out.new ≡ shstrtab_of (job_in text.now object) }
+pub fn build_shstrtab(out: &mut [u8], text: &[u8], object: &BpfObject)
+    requires kept { Kept text.now object.now }
+    requires out_len { length out.old ≡ length (shstrtab_of (job_in text.now object.now)) }
+    ensures { out.new ≡ shstrtab_of (job_in text.now object.now) }
 {
-    let programs = object.programs;
     octets::clear(&mut out[0..Section::LICENSE_NAME_AT]);
     named::put_string_at(out, Section::LICENSE_NAME_AT, b"license");
     let at = put_map_sections(out, Section::NEXT_NAME_AT, object.map_count);
-    let behind = put_program_sections(out, at, text, programs, object.program_count);
+    let behind = put_program_sections(out, at, text, object.programs());
     put_table_names(out, behind);
 }

@@ -15,6 +15,7 @@ pub fn read_full<R: Read>(input: &mut R, buf: &mut [u8]) -> io::Result<usize>
     ensures all_of_it { IfOk result (λ n. n < length buf.new → IsAtEnd (R.remaining input.new)) }
 {
     let mut done = 0;
+    // By hand, since it goes on by what the reader gave: `read_exact` fails at the input's end with no count, and `read_to_end` wants a heap.
     while done < buf.len() {
         let n = input.read(&mut buf[done..])?;
         if n == 0 {

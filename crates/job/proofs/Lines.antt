@@ -8,6 +8,8 @@ use native.Mathlib.Omega.{arith}
 use lib.ListN.{length, take, drop, length-drop}
 use lib.Seq.{length-take-le}
 use borrow.Author.Tests.{ne_eqb}
+use Rattle.std.specs.Prelude.{Result, Ok, Err}
+use Rattle.std.specs.Result.{result_map_both}
 use Rattle.lines.specs.Lines.{Line, lines, unhex, frame_bytes}
 use Rattle.lines.specs.Ends.{line_end}
 use Rattle.lines.specs.Hex.{there, is_frame}
@@ -17,8 +19,8 @@ use Rattle.lines.proofs.Bytes.{bytes_length}
 use Rattle.refusals.specs.Checked.{Stage, Step, take_line, take_lines, take_bytes, went, stopped, faulty}
 use Rattle.refusals.specs.Refusal.{number_of}
 use Rattle.judge.specs.Judged.{Framed, line_bytes, Judged}
-use Rattle.judge.specs.declared.Verdict.{Verdict}
-use Rattle.judge.specs.declared.Verdict.TheVariants as verdict
+use Rattle.judge.specs.declared.Order.{Order}
+use Rattle.refusals.specs.declared.Refusal.{Refusal}
 use Rattle.job.specs.Walked.{Next, Saying}
 
 -- ---- what may be there or not
@@ -75,7 +77,7 @@ module _ (text : List ℕ) (at end : ℕ) (next : Next text at end) (s : Stage) 
   pub stops_at : (n : ℕ) → take_bytes s (line_bytes text at end) ≡ stopped n → take_lines s (lines (drop at text)) ≡ faulty n (suc s.lines)
   stops_at n e = ap (take_lines s) next.is ∙ rw (on_line (stopped n) e, take_lines)
 
-  -- what a verdict on the line tells of the definition
-  pub saying : (v : Verdict) → Judged text s (line_bytes text at end) v → Saying text at s v end
-  saying (verdict.Refused r) j = stops_at (number_of r) j.0 ∙ ap (faulty (number_of r)) (sym j.1)
-  saying (verdict.Takes o) j = (next, j)
+  -- what a verdict on the line tells of the definition, with the line's end beside what is taken
+  pub saying : (v : Result Order Refusal) → Judged text s (line_bytes text at end) v → Saying text at s (result_map_both (λ o. record { order = o; end = end }) (λ r. r) v)
+  saying (Ok o) j = (next, j)
+  saying (Err r) j = stops_at (number_of r) j.0 ∙ ap (faulty (number_of r)) (sym j.1)

@@ -2,14 +2,15 @@
 use mathlib.Core.Path.{◌≡◌, refl, sym, ◌∙◌, ap}
 use mathlib.Core.Bool.{Bool, true, false}
 use mathlib.Core.List.{List, [], ◌∷◌, ◌++◌, append-nil}
-use Prim.Native.Nat.{ℕ, zero, suc, ◌+◌, ◌-◌, ◌*◌, ◌≤◌, ◌<◌}
+use Prim.Native.Nat.{ℕ, ◌+◌, ◌-◌, ◌*◌, ◌≤◌, ◌<◌}
 use native.Mathlib.Nat.{add-zero}
 use native.Mathlib.Numerals.{add-one}
 use native.Mathlib.Omega.{arith}
 use lib.Dec.{eqb}
 use lib.ListN.{length, take, drop, get_or, set, length-append, length-set}
-use lib.Seq.{take-suc-set, get_or-set_same, get_or-set_other}
+use lib.Seq.{length-take-le, take-suc-set, get_or-set_same, get_or-set_other}
 use borrow.Author.Tests.{lt-ltb, eqb-true, eqb-false}
+use Rattle.std.specs.Prelude.{Option, Some, None, Ok, IfSome, option_map}
 use Rattle.octets.proofs.Laws.{read_done}
 use Rattle.lines.specs.Lines.{lines}
 use Rattle.lines.proofs.Parts.{line_length}
@@ -18,43 +19,40 @@ use Rattle.ast.specs.Job.{Job}
 use Rattle.ast.specs.Job as job
 use Rattle.ast.specs.declared.Name.{Name}
 use Rattle.ast.specs.declared.MapDecl.{MapDecl}
-use Rattle.object.specs.declared.Entry.TheVariants.{Taken}
 use Rattle.object.specs.declared.Slot.{Slot}
 use Rattle.object.specs.declared.Program.{Program}
 use Rattle.object.specs.declared.BpfObject.{BpfObject}
 use Rattle.object.specs.declared.Added.{Added}
-use Rattle.object.specs.declared.Adding.TheVariants.{Done}
-use Rattle.object.specs.Tables.{empty_slot, Sound, done, with_license, with_map, added_map}
+use Rattle.object.specs.Tables.{Sound, done, with_license, with_map, added_map}
 use Rattle.object.specs.Read.{name_in, relocation_at, relocations_in, frame_code, code_of, body, program_in, programs_in, declared_maps, job_in}
-use Rattle.object.specs.Kept.{Named, ResolvedSlot, ProgramKept, Kept}
+use Rattle.object.specs.Kept.{Named, Resolved, ResolvedSlot, ProgramKept, Kept}
 use Rattle.object.proofs.Programs.{part_more, relocations_snoc, programs_snoc, programs_kept, kept_more, kept_snoc}
 use Rattle.refusals.specs.Checked.{take_bytes, take_lines, empty, went, accepted, relocated, added, on_last, with_code, with_relocation}
 use Rattle.lookup.specs.Names.{Names}
-use Rattle.judge.specs.Judged.{line_bytes, Held, Declared, declaration_frame}
+use Rattle.judge.specs.Judged.{line_bytes, Declared, declaration_frame}
 use Rattle.judge.specs.declared.Declaration.{Declaration}
 use Rattle.judge.specs.declared.Declaration.TheVariants.{License, Map as MapOf, Program as ProgramOf}
 use Rattle.job.specs.declared.Built.{Built}
 use Rattle.job.specs.declared.Parsed.{Parsed}
-use Rattle.job.specs.declared.Parsing.TheVariants.{Accepted}
-use Rattle.job.specs.Walked.{Next, parsed_as, finished_with, finished_of, parsed_in, ParsedKept, opened_at, code_added, reloc_added, closed_of, closed_object, with_slot, built_with, built_of, stage_in}
+use Rattle.job.specs.Walked.{Next, parsed_as, finished_with, finished_of, parsed_in, ParsedKept, open_count, opened_at, code_added, reloc_added, closed_of, closed_object, with_slot, built_with, built_of, stage_in}
 use Rattle.job.proofs.Body.{More, more}
 use Rattle.job.proofs.Walking.{Opened, Walking, maps_counted, programs_counted, taken, license_on, map_on}
 
 -- ---- closing the open program
 
 -- what holds of the object when the open program is added
-pub record Closed (text : List ℕ) (o : BpfObject) (opened : ℕ) (p : Program) (n : ℕ) : Type 0 where
-  pub done : closed_of o opened p ≡ done (closed_object o opened p)
-  pub kept : Kept text (closed_object o opened p)
-  pub job : job_in text (closed_object o opened p) ≡ (stage_in text o opened p n).job
-  pub relocs : (closed_object o opened p).reloc_count ≡ o.reloc_count
-  pub programs : (closed_object o opened p).program_count ≡ o.program_count + opened
+pub record Closed (text : List ℕ) (o : BpfObject) (opened : Option Program) (n : ℕ) : Type 0 where
+  pub done : closed_of o opened ≡ done (closed_object o opened)
+  pub kept : Kept text (closed_object o opened)
+  pub job : job_in text (closed_object o opened) ≡ (stage_in text o opened n).job
+  pub relocs : (closed_object o opened).reloc_count ≡ o.reloc_count
+  pub programs : (closed_object o opened).program_count ≡ o.program_count + open_count opened
 
 abbrev with_programs_lem : (text : List ℕ) (o : BpfObject) → List job.Program → Job
 with_programs_lem text o ps = record { licence = (job_in text o).licence; maps = (job_in text o).maps; programs = ps }
 
-pub closing : (text : List ℕ) (o : BpfObject) (opened : ℕ) (p : Program) (n at : ℕ) → Walking text o opened p n at → Closed text o opened p n
-closing text o zero p n at w =
+pub closing : (text : List ℕ) (o : BpfObject) (opened : Option Program) (n at : ℕ) → Walking text o opened n at → Closed text o opened n
+closing text o None n at w =
     record {
       done = refl;
       kept = w.kept;
@@ -62,8 +60,7 @@ closing text o zero p n at w =
       relocs = refl;
       programs = sym (add-zero o.program_count);
     }
-closing text o (suc (suc k)) p n at w = absurd (omega (arith, w.one))
-closing text o (suc zero) p n at w =
+closing text o (Some p) n at w =
     let s = w.kept.sound in
     let q = w.opening in
     let c : o.program_count < 32 = omega (arith, w.few) in
@@ -85,8 +82,6 @@ closing text o (suc zero) p n at w =
             sound =
                 record {
                   maps = s.maps;
-                  ats = s.ats;
-                  lens = s.lens;
                   programs = length-set o.programs o.program_count p ∙ s.programs;
                   slots = s.slots;
                   few_maps = s.few_maps;
@@ -114,16 +109,15 @@ on_last_lem f [] q = refl
 on_last_lem f (p ∷ []) q = refl
 on_last_lem f (p ∷ r ∷ ps) q = ap (λ (l : List job.Program). p ∷ l) (on_last_lem f (r ∷ ps) q)
 
-module _ (text : List ℕ) (o : BpfObject) (opened : ℕ) (p : Program) (n at end : ℕ) (w : Walking text o opened p n at) (next : Next text at end) where
-  -- ---- a program's line
-
+module _ (text : List ℕ) (o : BpfObject) (opened : Option Program) (n at end : ℕ) (w : Walking text o opened n at) (next : Next text at end) where
+  -- a program's line
   pub program_on : (a b : Name)
-      → take_bytes (stage_in text o opened p n) (line_bytes text at end) ≡ added (stage_in text o opened p n) (program (name_in text a) (name_in text b))
-      → Named text a → Named text b → length (stage_in text o opened p n).job.programs < 32
-      → Walking text (closed_object o opened p) 1 (opened_at a b (end + 1) o.reloc_count) (n + 1) (end + 1)
+      → take_bytes (stage_in text o opened n) (line_bytes text at end) ≡ added (stage_in text o opened n) (program (name_in text a) (name_in text b))
+      → Named text a → Named text b → length (stage_in text o opened n).job.programs < 32
+      → Walking text (closed_object o opened) (Some (opened_at a b (end + 1) o.reloc_count)) (n + 1) (end + 1)
   program_on a b e k l few =
-      let c = closing text o opened p n at w in
-      let u = programs_counted text o opened p n w.kept.sound w.one in
+      let c = closing text o opened n at w in
+      let u = programs_counted text o opened n w.kept.sound in
       record {
         kept = c.kept;
         opening =
@@ -138,41 +132,29 @@ module _ (text : List ℕ) (o : BpfObject) (opened : ℕ) (p : Program) (n at en
               few_lines = omega arith;
               few_bytes = omega arith;
             };
-        one = omega arith;
         few = omega (arith, c.programs);
         inside = omega (arith, next.inside);
         counted = omega (arith, w.counted, next.framed.first);
         early = omega arith;
         whole =
-            taken text o opened p n at end w next _ _ (closed_object o opened p) 1 (opened_at a b (end + 1) o.reloc_count) e
+            taken text o opened n at end w next _ _ (closed_object o opened) (Some (opened_at a b (end + 1) o.reloc_count)) e
             (ap (one_more (record { section = name_in text a; symbol = name_in text b; code = []; relocations = [] })) (sym c.job)) (sym c.relocs);
       }
 
-  -- ---- a line of the open program's body
+-- ---- a line of the open program's body
 
-  -- a program is open
-  is_open : 0 < length (stage_in text o opened p n).job.programs → opened ≡ 1
-  is_open h = go opened refl
-    where
-      go : (q : ℕ) → opened ≡ q → opened ≡ 1
-      go zero i = absurd (omega (arith, programs_counted text o opened p n w.kept.sound w.one, (rw i at w.opening).0))
-      go (suc q) i = omega (arith, w.one)
-
-  the_open : opened ≡ 1 → Opened text o p at
-  the_open i = rw i at w.opening
-
-  pub code_on : (k : ℕ)
-      → take_bytes (stage_in text o opened p n) (line_bytes text at end)
-      ≡ added (stage_in text o opened p n) (code (frame_code (frame_of (line_bytes text at end))))
-      → length (frame_code (frame_of (line_bytes text at end))) ≡ k → 0 < length (stage_in text o opened p n).job.programs → k ≤ length (line_bytes text at end)
-      → Walking text o opened (code_added p k) (n + 1) (end + 1)
-  code_on k e l h g =
-      let i = is_open h in
-      let q = the_open i in
+module _ (text : List ℕ) (o : BpfObject) (p : Program) (n at end : ℕ) (w : Walking text o (Some p) n at) (next : Next text at end) where
+  open_code : (k : ℕ)
+      → take_bytes (stage_in text o (Some p) n) (line_bytes text at end)
+      ≡ added (stage_in text o (Some p) n) (code (frame_code (frame_of (line_bytes text at end))))
+      → length (frame_code (frame_of (line_bytes text at end))) ≡ k → k ≤ length (line_bytes text at end)
+      → Walking text o (Some (code_added p k)) (n + 1) (end + 1)
+  open_code k e l g =
+      let q = w.opening in
       let m = more text o p at end q next in
       record {
         kept = w.kept;
-        opening = rw i (record {
+        opening = record {
           section = q.section;
           symbol = q.symbol;
           here = m.here;
@@ -182,21 +164,20 @@ module _ (text : List ℕ) (o : BpfObject) (opened : ℕ) (p : Program) (n at en
           slots = q.slots;
           few_lines = omega (arith, q.few_lines, next.framed.first);
           few_bytes = omega (arith, q.few_bytes, bytes_half);
-        });
-        one = w.one;
+        };
         few = w.few;
         inside = omega (arith, next.inside);
         counted = omega (arith, w.counted, next.framed.first);
         early = omega (arith, w.early);
         whole =
-            taken text o opened p n at end w next _ _ o opened (code_added p k) e (rw i (job_code m)) refl;
+            taken text o (Some p) n at end w next _ _ o (Some (code_added p k)) e (job_code m) refl;
       }
     where
       bytes_half : end - at ≡ 2 * length (line_bytes text at end)
       bytes_half = line_length text at end (omega (arith, next.framed.first)) next.framed.last next.framed.hex
 
       job_code : More text p at end
-          → with_programs_lem text o (on_last (with_code (frame_code (frame_of (line_bytes text at end)))) (stage_in text o 1 p n).job.programs) ≡ (stage_in text o 1 (code_added p k) (n + 1)).job
+          → with_programs_lem text o (on_last (with_code (frame_code (frame_of (line_bytes text at end)))) (stage_in text o (Some p) n).job.programs) ≡ (stage_in text o (Some (code_added p k)) (n + 1)).job
       job_code m =
           ap (with_programs_lem text o)
           (on_last_lem (with_code (frame_code (frame_of (line_bytes text at end)))) (programs_in text o.slots (take o.program_count o.programs)) (program_in text o.slots p)
@@ -211,14 +192,13 @@ module _ (text : List ℕ) (o : BpfObject) (opened : ℕ) (p : Program) (n at en
                 relocations = relocations_in text (take p.relocs (drop p.first o.slots));
               }
 
-  pub reloc_on : (x : Slot)
-      → take_bytes (stage_in text o opened p n) (line_bytes text at end)
-      ≡ went (relocated (stage_in text o opened p n) (relocation_at text x.place x.len x.map))
-      → x.entry ≡ Taken → ResolvedSlot text (declared_maps text o) x → o.reloc_count < 256 → 0 < length (stage_in text o opened p n).job.programs
-      → frame_code (frame_of (line_bytes text at end)) ≡ [] → Walking text (with_slot o x) opened (reloc_added p) (n + 1) (end + 1)
-  reloc_on x e t r few h c =
-      let i = is_open h in
-      let q = the_open i in
+  open_reloc : (x : Slot)
+      → take_bytes (stage_in text o (Some p) n) (line_bytes text at end)
+      ≡ went (relocated (stage_in text o (Some p) n) (relocation_at text x.place x.len x.map))
+      → Resolved text (declared_maps text o) x.place x.len x.map → o.reloc_count < 256
+      → frame_code (frame_of (line_bytes text at end)) ≡ [] → Walking text (with_slot o x) (Some (reloc_added p)) (n + 1) (end + 1)
+  open_reloc x e r few c =
+      let q = w.opening in
       let m = more text o p at end q next in
       let s = w.kept.sound in
       let z : code_of (body text p.from (p.lines + 1)) ≡ code_of (body text p.from p.lines) =
@@ -229,10 +209,8 @@ module _ (text : List ℕ) (o : BpfObject) (opened : ℕ) (p : Program) (n at en
               sound =
                   record {
                     maps = s.maps;
-                    ats = s.ats;
-                    lens = s.lens;
                     programs = s.programs;
-                    slots = length-set o.slots o.reloc_count x ∙ s.slots;
+                    slots = length-set o.slots o.reloc_count (Some x) ∙ s.slots;
                     few_maps = s.few_maps;
                     few_programs = s.few_programs;
                     few_slots = omega arith;
@@ -242,7 +220,7 @@ module _ (text : List ℕ) (o : BpfObject) (opened : ℕ) (p : Program) (n at en
               programs = kept_more text o.reloc_count (o.reloc_count + 1) (take o.program_count o.programs) (omega arith) w.kept.programs;
               slots = resolved (omega (arith, s.slots)) r;
             };
-        opening = rw i (record {
+        opening = record {
           section = q.section;
           symbol = q.symbol;
           here = m.here;
@@ -252,112 +230,130 @@ module _ (text : List ℕ) (o : BpfObject) (opened : ℕ) (p : Program) (n at en
           slots = omega (arith, q.slots);
           few_lines = omega (arith, q.few_lines, next.framed.first);
           few_bytes = omega (arith, q.few_bytes, next.framed.first);
-        });
-        one = w.one;
+        };
         few = w.few;
         inside = omega (arith, next.inside);
         counted = omega (arith, w.counted, next.framed.first);
         early = omega (arith, w.early);
         whole =
-            taken text o opened p n at end w next _ _ (with_slot o x) opened (reloc_added p) e (rw i (job_reloc t q z (omega (arith, s.slots)))) refl;
+            taken text o (Some p) n at end w next _ _ (with_slot o x) (Some (reloc_added p)) e (job_reloc q z (omega (arith, s.slots))) refl;
       }
     where
-      resolved : o.reloc_count < length o.slots → ResolvedSlot text (declared_maps text o) x → (i : ℕ) → i < o.reloc_count + 1
-          → ResolvedSlot text (declared_maps text o) (get_or (set o.slots o.reloc_count x) i empty_slot)
+      resolved : o.reloc_count < length o.slots → Resolved text (declared_maps text o) x.place x.len x.map → (i : ℕ) → i < o.reloc_count + 1
+          → ResolvedSlot text (declared_maps text o) (get_or (set o.slots o.reloc_count (Some x)) i None)
       resolved l r i h = go (eqb i o.reloc_count) refl
         where
-          go : (t : Bool) → eqb i o.reloc_count ≡ t → ResolvedSlot text (declared_maps text o) (get_or (set o.slots o.reloc_count x) i empty_slot)
-          go true t = let e : i ≡ o.reloc_count = eqb-true i o.reloc_count t in rw (e, get_or-set_same o.slots o.reloc_count x empty_slot l) r
+          go : (t : Bool) → eqb i o.reloc_count ≡ t → ResolvedSlot text (declared_maps text o) (get_or (set o.slots o.reloc_count (Some x)) i None)
+          go true t = let e : i ≡ o.reloc_count = eqb-true i o.reloc_count t in rw (e, get_or-set_same o.slots o.reloc_count (Some x) None l) r
           go false t =
               let f = eqb-false i o.reloc_count t in
-              rw (get_or-set_other o.slots o.reloc_count i x empty_slot f) (w.kept.slots i (omega (arith, f)))
+              rw (get_or-set_other o.slots o.reloc_count i (Some x) None f) (w.kept.slots i (omega (arith, f)))
 
       -- the open program with the relocation
-      program_reloc : x.entry ≡ Taken → Opened text o p at → code_of (body text p.from (p.lines + 1)) ≡ code_of (body text p.from p.lines) → o.reloc_count < length o.slots
-          → program_in text (set o.slots o.reloc_count x) (reloc_added p)
+      program_reloc : Opened text o p at → code_of (body text p.from (p.lines + 1)) ≡ code_of (body text p.from p.lines) → o.reloc_count < length o.slots
+          → program_in text (set o.slots o.reloc_count (Some x)) (reloc_added p)
           ≡ with_relocation (relocation_at text x.place x.len x.map) (program_in text o.slots p)
-      program_reloc i q z l =
-          let t : take (p.relocs + 1) (drop p.first (set o.slots (p.first + p.relocs) x)) ≡ take p.relocs (drop p.first o.slots) ++ (x ∷ []) =
-          rw (add-one p.relocs) (part_more o.slots p.first p.relocs x (omega (arith, q.slots))) in
-          rw (← q.slots, t, relocations_snoc text (take p.relocs (drop p.first o.slots)) x, z, i)
+      program_reloc q z l =
+          let t : take (p.relocs + 1) (drop p.first (set o.slots (p.first + p.relocs) (Some x))) ≡ take p.relocs (drop p.first o.slots) ++ (Some x ∷ []) =
+          rw (add-one p.relocs) (part_more o.slots p.first p.relocs (Some x) (omega (arith, q.slots))) in
+          rw (← q.slots, t, relocations_snoc text (take p.relocs (drop p.first o.slots)) (Some x), z)
 
-      job_reloc : x.entry ≡ Taken → Opened text o p at → code_of (body text p.from (p.lines + 1)) ≡ code_of (body text p.from p.lines) → o.reloc_count < length o.slots
-          → with_programs_lem text o (on_last (with_relocation (relocation_at text x.place x.len x.map)) (stage_in text o 1 p n).job.programs)
-          ≡ (stage_in text (with_slot o x) 1 (reloc_added p) (n + 1)).job
-      job_reloc i q z l =
+      job_reloc : Opened text o p at → code_of (body text p.from (p.lines + 1)) ≡ code_of (body text p.from p.lines) → o.reloc_count < length o.slots
+          → with_programs_lem text o (on_last (with_relocation (relocation_at text x.place x.len x.map)) (stage_in text o (Some p) n).job.programs)
+          ≡ (stage_in text (with_slot o x) (Some (reloc_added p)) (n + 1)).job
+      job_reloc q z l =
           let ps = take o.program_count o.programs in
           let f = with_relocation (relocation_at text x.place x.len x.map) in
           ap (with_programs_lem text o)
           (on_last_lem f (programs_in text o.slots ps) (program_in text o.slots p)
-          ∙ ap (λ (y : List job.Program). y ++ (f (program_in text o.slots p) ∷ [])) (sym (programs_kept text o.slots o.reloc_count x ps w.kept.programs))
-          ∙ ap (λ (y : job.Program). programs_in text (set o.slots o.reloc_count x) ps ++ (y ∷ [])) (sym (program_reloc i q z l)))
+          ∙ ap (λ (y : List job.Program). y ++ (f (program_in text o.slots p) ∷ [])) (sym (programs_kept text o.slots o.reloc_count (Some x) ps w.kept.programs))
+          ∙ ap (λ (y : job.Program). programs_in text (set o.slots o.reloc_count (Some x)) ps ++ (y ∷ [])) (sym (program_reloc q z l)))
+
+-- ---- the same, in a stage that has a program, so that one is open
+
+module _ (text : List ℕ) (o : BpfObject) where
+  -- with no program open there is none
+  none_yet : (n at : ℕ) → Walking text o None n at → 0 < length (stage_in text o None n).job.programs → ⊥
+  none_yet n at w h = omega (arith, programs_counted text o None n w.kept.sound, w.opening.0)
+
+  pub code_on : (opened : Option Program) (n at end : ℕ) → Walking text o opened n at → Next text at end → (k : ℕ)
+      → take_bytes (stage_in text o opened n) (line_bytes text at end)
+      ≡ added (stage_in text o opened n) (code (frame_code (frame_of (line_bytes text at end))))
+      → length (frame_code (frame_of (line_bytes text at end))) ≡ k → 0 < length (stage_in text o opened n).job.programs → k ≤ length (line_bytes text at end)
+      → Walking text o (option_map (λ p. code_added p k) opened) (n + 1) (end + 1)
+  code_on None n at end w next k e l h g = absurd (none_yet n at w h)
+  code_on (Some p) n at end w next k e l h g = open_code text o p n at end w next k e l g
+
+  pub reloc_on : (opened : Option Program) (n at end : ℕ) → Walking text o opened n at → Next text at end → (x : Slot)
+      → take_bytes (stage_in text o opened n) (line_bytes text at end)
+      ≡ went (relocated (stage_in text o opened n) (relocation_at text x.place x.len x.map))
+      → Resolved text (declared_maps text o) x.place x.len x.map → o.reloc_count < 256 → 0 < length (stage_in text o opened n).job.programs
+      → frame_code (frame_of (line_bytes text at end)) ≡ [] → Walking text (with_slot o x) (option_map reloc_added opened) (n + 1) (end + 1)
+  reloc_on None n at end w next x e r few h c = absurd (none_yet n at w h)
+  reloc_on (Some p) n at end w next x e r few h c = open_reloc text o p n at end w next x e r few c
 
   -- the open program's numbers have room for a line more
-  pub line_room : 0 < length (stage_in text o opened p n).job.programs → p.lines < 65535
-  line_room h = let q = the_open (is_open h) in omega (arith, q.few_lines, next.inside, next.framed.first, next.framed.few)
+  pub line_room : (opened : Option Program) (n at end : ℕ) → Walking text o opened n at → Next text at end → IfSome opened (λ p. p.lines < 65535)
+  line_room None n at end w next = tt
+  line_room (Some p) n at end w next = omega (arith, w.opening.few_lines, next.inside, next.framed.first, next.framed.few)
 
-  pub code_room : (k : ℕ) → 0 < length (stage_in text o opened p n).job.programs → k ≤ length (line_bytes text at end) → p.code_len + k < 65536
-  code_room k h g =
-      let q = the_open (is_open h) in
+  pub code_room : (opened : Option Program) (n at end : ℕ) → Walking text o opened n at → Next text at end → (k : ℕ) → k ≤ length (line_bytes text at end)
+      → IfSome opened (λ p. p.code_len + k < 65536)
+  code_room None n at end w next k g = tt
+  code_room (Some p) n at end w next k g =
       let f = next.framed in
-      omega (arith, q.few_bytes, next.inside, f.few, f.first, line_length text at end (omega (arith, f.first)) f.last f.hex)
+      omega (arith, w.opening.few_bytes, next.inside, f.few, f.first, line_length text at end (omega (arith, f.first)) f.last f.hex)
 
-  pub reloc_room : 0 < length (stage_in text o opened p n).job.programs → p.relocs < 65535
-  reloc_room h = let q = the_open (is_open h) in omega (arith, q.slots, w.kept.sound.few_slots)
+  pub reloc_room : (opened : Option Program) (n at : ℕ) → Walking text o opened n at → IfSome opened (λ p. p.relocs < 65535)
+  reloc_room None n at w = tt
+  reloc_room (Some p) n at w = omega (arith, w.opening.slots, w.kept.sound.few_slots)
 
-  -- ---- a declaration, as the code builds it
+-- ---- a declaration, as the code builds it
 
-  built_license : (m : Name) (r : Built) → r ≡ built_of o opened p (License m) (end + 1)
-      → Walking text (with_license o m).object opened p (n + 1) (end + 1) → (r.answer ≡ Done) × Walking text r.object r.opened r.program (n + 1) (end + 1)
+module _ (text : List ℕ) (o : BpfObject) (opened : Option Program) (n at end : ℕ) (w : Walking text o opened n at) (next : Next text at end) where
+  built_license : (m : Name) (r : Built) → r ≡ built_of o opened (License m) (end + 1)
+      → Walking text (with_license o m).object opened (n + 1) (end + 1) → (r.answer ≡ Ok tt) × Walking text r.object r.opened (n + 1) (end + 1)
   built_license m r e k = rw e (refl, k)
 
-  built_map : (d : MapDecl) (m : Name) (r : Built) → r ≡ built_of o opened p (MapOf d m) (end + 1) → o.map_count < 64
-      → Walking text (with_map o d m) opened p (n + 1) (end + 1) → (r.answer ≡ Done) × Walking text r.object r.opened r.program (n + 1) (end + 1)
+  built_map : (d : MapDecl) (m : Name) (r : Built) → r ≡ built_of o opened (MapOf d m) (end + 1) → o.map_count < 64
+      → Walking text (with_map o d m) opened (n + 1) (end + 1) → (r.answer ≡ Ok tt) × Walking text r.object r.opened (n + 1) (end + 1)
   built_map d m r e h k =
       let a : added_map o d m ≡ done (with_map o d m) = simp (lt-ltb o.map_count 64 h) in
-      rw (e ∙ ap (λ (x : Added). built_with x opened p) a) (refl, k)
+      rw (e ∙ ap (λ (x : Added). built_with x opened) a) (refl, k)
 
-  built_program : (a b : Name) (r : Built) → r ≡ built_of o opened p (ProgramOf a b) (end + 1)
-      → Walking text (closed_object o opened p) 1 (opened_at a b (end + 1) o.reloc_count) (n + 1) (end + 1)
-      → (r.answer ≡ Done) × Walking text r.object r.opened r.program (n + 1) (end + 1)
+  built_program : (a b : Name) (r : Built) → r ≡ built_of o opened (ProgramOf a b) (end + 1)
+      → Walking text (closed_object o opened) (Some (opened_at a b (end + 1) o.reloc_count)) (n + 1) (end + 1)
+      → (r.answer ≡ Ok tt) × Walking text r.object r.opened (n + 1) (end + 1)
   built_program a b r e k =
-      rw (e ∙ ap (λ (x : Added). built_with x 1 (opened_at a b (end + 1) o.reloc_count)) (closing text o opened p n at w).done) (refl, k)
+      rw (e ∙ ap (λ (x : Added). built_with x (Some (opened_at a b (end + 1) o.reloc_count))) (closing text o opened n at w).done) (refl, k)
 
-  pub declared_on : (d : Declaration) (r : Built) → r ≡ built_of o opened p d (end + 1)
-      → take_bytes (stage_in text o opened p n) (line_bytes text at end) ≡ added (stage_in text o opened p n) (declaration_frame text d)
-      → Declared text (stage_in text o opened p n) d → (r.answer ≡ Done) × Walking text r.object r.opened r.program (n + 1) (end + 1)
-  declared_on (License m) r e t k = built_license m r e (license_on text o opened p n at end w next m t k.0 k.1)
+  pub declared_on : (d : Declaration) (r : Built) → r ≡ built_of o opened d (end + 1)
+      → take_bytes (stage_in text o opened n) (line_bytes text at end) ≡ added (stage_in text o opened n) (declaration_frame text d)
+      → Declared text (stage_in text o opened n) d → (r.answer ≡ Ok tt) × Walking text r.object r.opened (n + 1) (end + 1)
+  declared_on (License m) r e t k = built_license m r e (license_on text o opened n at end w next m t k.0 k.1)
   declared_on (MapOf d m) r e t k =
-      built_map d m r e (omega (arith, k.1, maps_counted text o w.kept.sound)) (map_on text o opened p n at end w next d m t k.0 k.1 k.2)
-  declared_on (ProgramOf a b) r e t k = built_program a b r e (program_on a b t k.0 k.1 k.2)
+      built_map d m r e (omega (arith, k.1, maps_counted text o w.kept.sound)) (map_on text o opened n at end w next d m t k.0 k.1 k.2)
+  declared_on (ProgramOf a b) r e t k = built_program a b r e (program_on text o opened n at end w next a b t k.0 k.1 k.2)
 
 -- ---- what the judge is told
 
-pub names : (text : List ℕ) (o : BpfObject) → Kept text o → Names text o.map_at o.map_len o.map_count
-names text o k =
-    record {
-      ats_long = omega (arith, k.sound.ats, k.sound.few_maps);
-      lens_long = omega (arith, k.sound.lens, k.sound.few_maps);
-      inside = λ i h. (k.maps i h).inside;
-      hex = λ i h. (k.maps i h).hex;
-    }
+pub names : (text : List ℕ) (o : BpfObject) → Kept text o → Names text (take o.map_count o.maps)
+names text o k i h = record { inside = (k.maps i h).inside; hex = (k.maps i h).hex }
 
-pub held : (text : List ℕ) (o : BpfObject) (opened : ℕ) (p : Program) (n : ℕ) → Sound o → Held text o.map_at o.map_len (stage_in text o opened p n)
-held text o opened p n s =
-    let c = maps_counted text o s in
-    record { decls = o.maps; enough = omega (arith, s.maps, s.few_maps); is = rw c }
+pub few_maps : (o : BpfObject) → Sound o → length (take o.map_count o.maps) ≤ 64
+few_maps o s = omega (arith, length-take-le o.map_count o.maps (omega (arith, s.maps, s.few_maps)), s.few_maps)
 
 -- ---- the end of the text
 
-pub ended : (text : List ℕ) (o : BpfObject) (opened : ℕ) (p : Program) (n at : ℕ) → Walking text o opened p n at → length text ≤ at
-    → accepted (job_in text (closed_object o opened p)) ≡ take_lines empty (lines text)
-ended text o opened p n at w h =
-    sym (w.whole ∙ ap (λ (l : List ℕ). take_lines (stage_in text o opened p n) (lines l)) (read_done text at h) ∙ ap accepted (sym (closing text o opened p n at w).job))
+pub ended : (text : List ℕ) (o : BpfObject) (opened : Option Program) (n at : ℕ) → Walking text o opened n at → length text ≤ at
+    → accepted (job_in text (closed_object o opened)) ≡ take_lines empty (lines text)
+ended text o opened n at w h =
+    sym (w.whole ∙ ap (λ (l : List ℕ). take_lines (stage_in text o opened n) (lines l)) (read_done text at h) ∙ ap accepted (sym (closing text o opened n at w).job))
 
 -- the answer at the text's end is the definition's
-pub finished : (text : List ℕ) (o : BpfObject) (opened : ℕ) (p : Program) (n at : ℕ) (r : Parsed) → Walking text o opened p n at → length text ≤ at
-    → r ≡ finished_of o opened p n → (parsed_in text r ≡ take_lines empty (lines text)) × ParsedKept text r
-finished text o opened p n at r w h e =
-    let k = closing text o opened p n at w in
-    let z : r ≡ parsed_as Accepted (closed_object o opened p) = e ∙ ap (λ (x : Added). finished_with x n) k.done in
-    rw z (ended text o opened p n at w h, k.kept)
+pub finished : (text : List ℕ) (o : BpfObject) (opened : Option Program) (n at : ℕ) (r : Parsed) → Walking text o opened n at → length text ≤ at
+    → r ≡ finished_of o opened n → (parsed_in text r ≡ take_lines empty (lines text)) × ParsedKept text r
+finished text o opened n at r w h e =
+    let k = closing text o opened n at w in
+    let z : r ≡ parsed_as (Ok tt) (closed_object o opened) = e ∙ ap (λ (x : Added). finished_with x n) k.done in
+    rw z (ended text o opened n at w h, k.kept)

@@ -4,15 +4,16 @@ use mathlib.Core.Bool.{true}
 use mathlib.Core.List.{List}
 use Prim.Native.Nat.{ℕ, ◌+◌, ◌-◌, ◌/◌, ◌≤◌}
 use native.Mathlib.Omega.{arith}
-use lib.ListN.{length, take, drop}
+use lib.ListN.{take, drop}
+use Rattle.std.specs.Prelude.{Option}
 use Rattle.octets.specs.Told.{told}
 use Rattle.lines.specs.Hex.{is_hex, bytes_in}
 use Rattle.ast.specs.Job.{last_map}
-use Rattle.object.specs.Read.{bytes_at, maps_in}
+use Rattle.ast.specs.declared.NamedMap.{NamedMap}
+use Rattle.object.specs.Read.{bytes_at}
 use Rattle.refusals.specs.Checked.{Stage}
 use Rattle.lookup.specs.Names.{Finds, found_told}
 use Rattle.judge.specs.Judged.{Framed, line_bytes, Held}
-use Rattle.lookup.specs.declared.Found.{Found}
 use Rattle.judge.proofs.Pieces.{middle, rest}
 
 pub record Reading (text : List ℕ) (at end : ℕ) : Type 0 where
@@ -30,11 +31,8 @@ reading text at end f h =
     let name : bytes_at text (at + 2 + 16) ((end - (at + 18)) / 2) ≡ drop 9 (line_bytes text at end) = rw p n.bytes in
     record { offset = offset; hex = rw e at o.hex; name = name }
 
--- what a lookup finds among the names is the last such map of the stage
-pub looked : (text ats lens : List ℕ) (count : ℕ) (part name : List ℕ) (r : Found) (s : Stage) → bytes_in part ≡ name → length s.job.maps ≡ count
-    → Held text ats lens s → Finds text ats lens count (bytes_in part) r → found_told r ≡ told 7 (last_map name s.job.maps)
-looked text ats lens count part name r s b l h f =
-    f h.decls (omega (arith, h.enough))
-    ∙ ap (told 7)
-    (ap (λ (n : ℕ). last_map (bytes_in part) (maps_in text (take n h.decls) (take n ats) (take n lens))) (sym l)
-    ∙ ap (last_map (bytes_in part)) (sym h.is) ∙ ap (λ (x : List ℕ). last_map x s.job.maps) b)
+-- what a lookup finds among the maps is the last such map of the stage
+pub looked : (text : List ℕ) (ms : List NamedMap) (part name : List ℕ) (r : Option ℕ) (s : Stage) → bytes_in part ≡ name → Held text ms s
+    → Finds text ms (bytes_in part) r → found_told r ≡ told 7 (last_map name s.job.maps)
+looked text ms part name r s b h f =
+    f ∙ ap (told 7) (ap (last_map (bytes_in part)) (sym h) ∙ ap (λ (x : List ℕ). last_map x s.job.maps) b)

@@ -7,32 +7,26 @@ use mathlib.Core.List.{List, []}
 use Prim.Native.Nat.{ℕ, suc, ◌+◌}
 use native.Mathlib.Omega.{arith}
 use lib.Dec.{eqb}
-use lib.ListN.{length, take, replicate, length-replicate}
+use lib.ListN.{length, replicate, length-replicate}
 use contract.Lifetimes.{Lfts}
 use borrow.Fn.Kinds.{Dens, ended_of}
 use denote.Triple.Clauses.{AtExit}
+use Rattle.std.specs.Prelude.{Result, Ok, Err}
 use Rattle.octets.specs.Octets.{value}
-use Rattle.ast.specs.Job.{Map, Program, last_map}
-use Rattle.ast.specs.declared.MapDecl.{MapDecl}
+use Rattle.ast.specs.Job.{Program, last_map}
+use Rattle.ast.specs.declared.NamedMap.{NamedMap}
 use Rattle.frames.specs.Frames.{Frame, licence, map_decl, program, code, relocation, frame_of}
-use Rattle.object.specs.Tables.{no_map}
 use Rattle.object.specs.Read.{bytes_at, maps_in, frame_code}
-use Rattle.object.specs.Kept.{ResolvedEntry}
-use Rattle.object.specs.declared.Entry.{Entry}
-use Rattle.object.specs.declared.Entry.TheVariants as entry
-use Rattle.object.proofs.Read.{count_maps}
 use Rattle.refusals.specs.Checked.{Stage, Step, went, stopped, take_bytes, added}
 use Rattle.refusals.specs.Refusal.{number_of, line_of}
-use Rattle.lookup.specs.Names.{Names}
 use Rattle.refusals.specs.declared.Refusal.{Refusal}
 use Rattle.refusals.specs.declared.Refusal.TheVariants.{TooLong, BadLine, BadFrame, Misplaced, BadText, OverLimit, UnknownMap, NoRoom}
 use Rattle.judge.specs.Judged.{Agrees, Held, Judged, line_bytes, declaration_frame}
 use Rattle.judge.specs.declared.Counts.{Counts}
 use Rattle.judge.specs.declared.Declaration.{Declaration}
 use Rattle.judge.specs.declared.Declaration.TheVariants as declaration
+use Rattle.judge.specs.declared.Order.{Order}
 use Rattle.judge.specs.declared.Order.TheVariants.{Declares, Code, Reloc}
-use Rattle.judge.specs.declared.Verdict.{Verdict}
-use Rattle.judge.specs.declared.Verdict.TheVariants.{Takes, Refused}
 use Rattle.judge.proofs.judge_frame.Kinds as judge_frame_kinds
 use Rattle.judge.proofs.judge_frame.Reads as judge_frame
 
@@ -42,11 +36,11 @@ data Meaning : Type 0 where
   takes : Frame → Option ℕ → Meaning
   refuses : Refusal → Meaning
 
-abbrev meant : List ℕ → List ℕ → Verdict → Meaning
-meant text bs (Takes (Declares d)) = takes (declaration_frame text d) none
-meant text bs (Takes (Code n)) = takes (code (frame_code (frame_of bs))) (some n)
-meant text bs (Takes (Reloc x)) = takes (relocation (value (bytes_at text x.place 8)) (bytes_at text (x.place + 16) x.len)) (some x.map)
-meant text bs (Refused r) = refuses r
+abbrev meant : List ℕ → List ℕ → Result Order Refusal → Meaning
+meant text bs (Ok (Declares d)) = takes (declaration_frame text d) none
+meant text bs (Ok (Code n)) = takes (code (frame_code (frame_of bs))) (some n)
+meant text bs (Ok (Reloc x)) = takes (relocation (value (bytes_at text x.place 8)) (bytes_at text (x.place + 16) x.len)) (some x.map)
+meant text bs (Err r) = refuses r
 
 -- ---- the same, by the line's frame and what the table does with it
 
@@ -90,32 +84,21 @@ module _ (s : Stage) where
     back_declared (declaration.Map d n) = refl
     back_declared (declaration.Program a b) = refl
 
-    slot_number : (x : Entry) (place len number : ℕ) → ResolvedEntry text s.job.maps x place len number
-        → last_map (bytes_at text (place + 16) len) s.job.maps ≡ some number
-    slot_number entry.Empty place len number r = absurd r
-    slot_number entry.Taken place len number r = r.last
-
-    back_meant : (r : Verdict) → Judged text s bs r → back (frame_of bs) (take_bytes s bs) ≡ some (meant text bs r)
-    back_meant (Takes (Declares d)) j =
+    back_meant : (r : Result Order Refusal) → Judged text s bs r → back (frame_of bs) (take_bytes s bs) ≡ some (meant text bs r)
+    back_meant (Ok (Declares d)) j =
         ap (λ (o : Option Frame). back o (take_bytes s bs)) j.2 ∙ ap (back (some (declaration_frame text d))) j.0 ∙ back_declared d
-    back_meant (Takes (Code n)) j =
+    back_meant (Ok (Code n)) j =
         let c = code (frame_code (frame_of bs)) in
         ap (λ (o : Option Frame). back o (take_bytes s bs)) j.4 ∙ ap (back (some c)) j.0 ∙ ap (λ (k : ℕ). some (takes c (some k))) j.1
-    back_meant (Takes (Reloc x)) j =
+    back_meant (Ok (Reloc x)) j =
         let f = relocation (value (bytes_at text x.place 8)) (bytes_at text (x.place + 16) x.len) in
-        ap (λ (o : Option Frame). back o (take_bytes s bs)) j.6 ∙ ap (back (some f)) j.0
-        ∙ ap (λ (k : Option ℕ). some (takes f k)) (slot_number x.entry x.place x.len x.map j.2)
-    back_meant (Refused r) j = ap (back (frame_of bs)) j.0 ∙ ap refusing (refusal_is r s.lines j.1)
+        ap (λ (o : Option Frame). back o (take_bytes s bs)) j.5 ∙ ap (back (some f)) j.0
+        ∙ ap (λ (k : Option ℕ). some (takes f k)) j.1.last
+    back_meant (Err r) j = ap (back (frame_of bs)) j.0 ∙ ap refusing (refusal_is r s.lines j.1)
 
 -- ---- the promise is about every stage with these counts, and there is one
 
-module _ (text ats lens : List ℕ) (k : Counts) (names : Names text ats lens k.maps) where
-  abbrev decls : List MapDecl
-  decls = replicate k.maps no_map
-
-  abbrev maps : List Map
-  maps = maps_in text (take k.maps decls) (take k.maps ats) (take k.maps lens)
-
+module _ (text : List ℕ) (ms : List NamedMap) (k : Counts) where
   abbrev any_program : Program
   any_program = record { section = []; symbol = []; code = []; relocations = [] }
 
@@ -124,39 +107,30 @@ module _ (text ats lens : List ℕ) (k : Counts) (names : Names text ats lens k.
       record {
         lines = k.lines;
         relocations = k.relocs;
-        job = record { licence = []; maps = maps; programs = replicate k.programs any_program };
+        job = record { licence = []; maps = maps_in text ms; programs = replicate k.programs any_program };
       }
 
-  decl_count : length decls ≡ k.maps
-  decl_count = length-replicate k.maps no_map
-
-  map_count : length maps ≡ k.maps
-  map_count = count_maps text decls ats lens k.maps (omega (arith, decl_count)) names.ats_long names.lens_long
-
   agrees : Agrees stage k
-  agrees = record { lines = refl; maps = map_count; programs = length-replicate k.programs any_program; relocs = refl }
-
-  held : Held text ats lens stage
-  held = record { decls = decls; enough = omega (arith, decl_count, map_count); is = rw map_count }
+  agrees = record { lines = refl; programs = length-replicate k.programs any_program; relocs = refl }
 
   -- two verdicts that meet the promise mean the same
-  meant_once : (bs : List ℕ) (r r' : Verdict) → ((s : Stage) → Agrees s k → Held text ats lens s → Judged text s bs r)
-      → ((s : Stage) → Agrees s k → Held text ats lens s → Judged text s bs r') → meant text bs r ≡ meant text bs r'
+  meant_once : (bs : List ℕ) (r r' : Result Order Refusal) → ((s : Stage) → Agrees s k → Held text ms s → Judged text s bs r)
+      → ((s : Stage) → Agrees s k → Held text ms s → Judged text s bs r') → meant text bs r ≡ meant text bs r'
   meant_once bs r r' p p' =
-      let e = sym (back_meant stage text bs r (p stage agrees held)) ∙ back_meant stage text bs r' (p' stage agrees held) in
+      let e = sym (back_meant stage text bs r (p stage agrees refl)) ∙ back_meant stage text bs r' (p' stage agrees refl) in
       cc
 
 -- ---- two verdicts that meet the promise of `judge_frame`
 
-module _ (κs : Lfts 2) (a : Dens κs judge_frame_kinds.ps) (z z' : Verdict) (e e' : AtExit (ended_of 2 judge_frame_kinds.ps judge_frame_kinds.r) κs)
+module _ (κs : Lfts 2) (a : Dens κs judge_frame_kinds.ps) (z z' : Result Order Refusal) (e e' : AtExit (ended_of 2 judge_frame_kinds.ps judge_frame_kinds.r) κs)
     (p : judge_frame.Post κs a z e) (p' : judge_frame.Post κs a z' e') where
   abbrev text : List ℕ
   text = a.0.now
 
   -- the line's bytes
   abbrev line : List ℕ
-  line = line_bytes text a.1.1.1.0 a.1.1.1.1.0
+  line = line_bytes text a.1.1.0 a.1.1.1.0
 
-  -- they mean the same, for arguments that the function takes
-  judge_frame_meant : judge_frame.Pre κs a → meant text line z ≡ meant text line z'
-  judge_frame_meant q = meant_once text _ _ _ q.1.1.1.0 line z z' p p'
+  -- they mean the same
+  judge_frame_meant : meant text line z ≡ meant text line z'
+  judge_frame_meant = meant_once text _ _ line z z' p p'

@@ -1,15 +1,15 @@
 -- What a verdict says of a line: what the table of refusals does with its bytes, in every stage that has these counts.
-use Rattle.std.specs.Prelude.{◌≡◌, true, List, [], ℕ, suc, ◌+◌, ◌-◌, ◌/◌, ◌≤◌, ◌<◌, length, take, drop}
+use Rattle.std.specs.Prelude.{◌≡◌, true, List, [], ℕ, suc, ◌+◌, ◌-◌, ◌/◌, ◌≤◌, ◌<◌, length, take, drop, Result, Ok, Err}
 use Rattle.std.proofs.Math.Option.{some}
 use Rattle.lines.specs.Hex.{is_hex, bytes_in}
 use Rattle.frames.specs.Frames.{Frame, licence, map_decl, program, code, relocation, frame_of}
 use Rattle.ast.specs.declared.Name.{Name}
 use Rattle.ast.specs.declared.MapDecl.{MapDecl}
+use Rattle.ast.specs.declared.NamedMap.{NamedMap}
 use Rattle.octets.specs.Octets.{value}
-use Rattle.object.specs.declared.Entry.TheVariants.{Taken}
 use Rattle.object.specs.declared.Slot.{Slot}
 use Rattle.object.specs.Read.{bytes_at, name_in, maps_in, relocation_at, frame_code}
-use Rattle.object.specs.Kept.{Named, ResolvedSlot}
+use Rattle.object.specs.Kept.{Named, Resolved}
 use Rattle.refusals.specs.Checked.{Stage, take_bytes, went, stopped, relocated, added}
 use Rattle.refusals.specs.Refusal.{number_of, line_of}
 use Rattle.judge.specs.declared.Counts.{Counts}
@@ -17,8 +17,7 @@ use Rattle.judge.specs.declared.Declaration.{Declaration}
 use Rattle.judge.specs.declared.Declaration.TheVariants as declaration
 use Rattle.judge.specs.declared.Order.{Order}
 use Rattle.judge.specs.declared.Order.TheVariants as order
-use Rattle.judge.specs.declared.Verdict.{Verdict}
-use Rattle.judge.specs.declared.Verdict.TheVariants as verdict
+use Rattle.refusals.specs.declared.Refusal.{Refusal}
 
 -- a line whose hexadecimal is from `at` to `end`
 pub record Framed (text : List ℕ) (at end : ℕ) : Type 0 where
@@ -40,22 +39,17 @@ name_at from end = record { at = from; len = (end - from) / 2 }
 
 -- the slot of a relocation whose line is from `at` to `end`
 abbrev pub slot_at : ℕ → ℕ → ℕ → Slot
-slot_at at end map = record { entry = Taken; map = map; place = at + 2; len = (end - (at + 18)) / 2 }
+slot_at at end map = record { map = map; place = at + 2; len = (end - (at + 18)) / 2 }
 
 -- the code's counts are those of the stage
 pub record Agrees (s : Stage) (k : Counts) : Type 0 where
   pub lines : s.lines ≡ k.lines
-  pub maps : length s.job.maps ≡ k.maps
   pub programs : length s.job.programs ≡ k.programs
   pub relocs : s.relocations ≡ k.relocs
 
--- the stage's maps are those whose names are in the arrays
-pub record Held (text ats lens : List ℕ) (s : Stage) : Type 0 where
-  pub decls : List MapDecl
-  pub enough : length s.job.maps ≤ length decls
-  pub is :
-      s.job.maps
-      ≡ maps_in text (take (length s.job.maps) decls) (take (length s.job.maps) ats) (take (length s.job.maps) lens)
+-- the stage's maps are those of the table
+abbrev pub Held : List ℕ → List NamedMap → Stage → Type 0
+Held text ms s = s.job.maps ≡ maps_in text ms
 
 -- frames by the parts of their bytes
 abbrev pub map_frame_of : MapDecl → List ℕ → Frame
@@ -86,10 +80,10 @@ Ordered text s bs (order.Code n) =
     (take_bytes s bs ≡ added s (code (frame_code (frame_of bs)))) × (length (frame_code (frame_of bs)) ≡ n)
     × (0 < length s.job.programs) × (n ≤ length bs) × (frame_of bs ≡ some (code (frame_code (frame_of bs))))
 Ordered text s bs (order.Reloc x) =
-    (take_bytes s bs ≡ went (relocated s (relocation_at text x.place x.len x.map))) × (x.entry ≡ Taken)
-    × ResolvedSlot text s.job.maps x × (s.relocations < 256) × (0 < length s.job.programs) × (frame_code (frame_of bs) ≡ [])
+    (take_bytes s bs ≡ went (relocated s (relocation_at text x.place x.len x.map)))
+    × Resolved text s.job.maps x.place x.len x.map × (s.relocations < 256) × (0 < length s.job.programs) × (frame_code (frame_of bs) ≡ [])
     × (frame_of bs ≡ some (relocation (value (bytes_at text x.place 8)) (bytes_at text (x.place + 16) x.len)))
 
-abbrev pub Judged : List ℕ → Stage → List ℕ → Verdict → Type 0
-Judged text s bs (verdict.Takes o) = Ordered text s bs o
-Judged text s bs (verdict.Refused r) = (take_bytes s bs ≡ stopped (number_of r)) × (line_of r ≡ suc s.lines)
+abbrev pub Judged : List ℕ → Stage → List ℕ → Result Order Refusal → Type 0
+Judged text s bs (Ok o) = Ordered text s bs o
+Judged text s bs (Err r) = (take_bytes s bs ≡ stopped (number_of r)) × (line_of r ≡ suc s.lines)

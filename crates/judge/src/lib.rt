@@ -10,19 +10,17 @@ ghost use Rattle.frames.specs.Frames.{licence, code, frame_of};
 ghost use Rattle.refusals.specs.Checked.{Stage};
 ghost use Rattle.judge.specs.Judged.{name_at, Framed, line_bytes, Says, Judged, Agrees, Held, map_frame_of, program_frame_of, relocation_frame_of, slot_at};
 
-use ast::{MapDecl, Name};
-use flaws::{Flaw, Limit};
+use ast::{MapDecl, Name, NamedMap};
 use frames::Frame;
 use insn::Insn;
-use lookup::Found;
-use object::{BpfObject, Entry, Slot};
+use lines::Hex;
+use object::{BpfObject, Slot};
 use refusals::Refusal;
 
-// How much there is before a frame: lines, maps, programs with the open one, relocations.
+// How much there is before a frame: lines, programs with the open one, relocations. The maps are counted by the table that is lent.
 #[derive(Clone, Copy)]
 pub struct Counts {
     pub lines: usize,
-    pub maps: usize,
     pub programs: usize,
     pub relocs: usize,
 }
@@ -43,13 +41,6 @@ pub enum Order {
     Reloc(Slot),
 }
 
-// What the table does with a frame.
-#[derive(Clone, Copy)]
-pub enum Verdict {
-    Takes(Order),
-    Refused(Refusal),
-}
-
 // The name that the characters from `from` to `end` give.
 fn name_at(from: usize, end: usize) -> Name
     requires from_le_end { from ≤ end }
@@ -64,7 +55,7 @@ fn name_at(from: usize, end: usize) -> Name
 }
 
 // A licence: it comes first.
-fn judge_license(text: &[u8], at: usize, end: usize, lines: usize) -> Verdict
+fn judge_license(text: &[u8], at: usize, end: usize, lines: usize) -> Result<Order, Refusal>
     requires framed { Framed text.now at end }
     requires lines_bound { lines < 65536 }
     requires says { Says text.now at end (licence (drop 1 (line_bytes text.now at end))) }
@@ -72,22 +63,25 @@ fn judge_license(text: &[u8], at: usize, end: usize, lines: usize) -> Verdict
 {
     let line = lines + 1;
     if 0 < lines {
-        return Verdict::Refused(Refusal::Misplaced(line));
+        return Err(Refusal::Misplaced(line));
     }
     let from = at + 2;
-    let flaw = flaws::string_flaw(&text[from..end]);
-    let Flaw::Good = flaw else {
-        return Verdict::Refused(Refusal::BadText(line));
+    let hex = Hex {
+        chars: &text[from..end],
     };
-    let limit = flaws::name_limit(&text[from..end], false);
-    let Limit::Kept = limit else {
-        return Verdict::Refused(Refusal::OverLimit(line));
+    let flaw = flaws::string_flaw(hex);
+    let Ok(()) = flaw else {
+        return Err(Refusal::BadText(line));
+    };
+    let limit = flaws::name_limit(hex, false);
+    let Ok(()) = limit else {
+        return Err(Refusal::OverLimit(line));
     };
     let name = name_at(from, end);
-    Verdict::Takes(Order::Declares(Declaration::License(name)))
+    Ok(Order::Declares(Declaration::License(name)))
 }
 
-// A map's declaration: maps precede programs.
+// A map's declaration: maps precede programs. There are `maps` maps before it.
 fn judge_map(
     text: &[u8],
     at: usize,
@@ -95,32 +89,42 @@ fn judge_map(
     decl: MapDecl,
     name: usize,
     counts: Counts,
-) -> Verdict
+    maps: usize,
+) -> Result<Order, Refusal>
     requires framed { Framed text.now at end }
     requires lines_bound { counts.lines < 65536 }
     requires le_name { (1 ≤ name) × (name ≤ length (line_bytes text.now at end)) }
     requires says { Says text.now at end (map_frame_of decl (drop name (line_bytes text.now at end))) }
-    ensures { (s : Stage) → Agrees s counts → Judged text.now s (line_bytes text.now at end) result }
+    ensures { (s : Stage) → Agrees s counts → length s.job.maps ≡ maps → Judged text.now s (line_bytes text.now at end) result }
 {
     let line = counts.lines + 1;
     if 0 < counts.programs {
-        return Verdict::Refused(Refusal::Misplaced(line));
+        return Err(Refusal::Misplaced(line));
     }
     let from = at + 2 * name;
-    let flaw = flaws::name_flaw(&text[from..end]);
-    let Flaw::Good = flaw else {
-        return Verdict::Refused(Refusal::BadText(line));
+    let hex = Hex {
+        chars: &text[from..end],
     };
-    let limit = flaws::name_limit(&text[from..end], BpfObject::MAPS <= counts.maps);
-    let Limit::Kept = limit else {
-        return Verdict::Refused(Refusal::OverLimit(line));
+    let flaw = flaws::name_flaw(hex);
+    let Ok(()) = flaw else {
+        return Err(Refusal::BadText(line));
+    };
+    let limit = flaws::name_limit(hex, BpfObject::MAPS <= maps);
+    let Ok(()) = limit else {
+        return Err(Refusal::OverLimit(line));
     };
     let name = name_at(from, end);
-    Verdict::Takes(Order::Declares(Declaration::Map { decl, name }))
+    Ok(Order::Declares(Declaration::Map { decl, name }))
 }
 
 // A program: the section name is before `symbol`, the symbol's name from there on.
-fn judge_program(text: &[u8], at: usize, end: usize, symbol: usize, counts: Counts) -> Verdict
+fn judge_program(
+    text: &[u8],
+    at: usize,
+    end: usize,
+    symbol: usize,
+    counts: Counts,
+) -> Result<Order, Refusal>
     requires framed { Framed text.now at end }
     requires lines_bound { counts.lines < 65536 }
     requires le_symbol { (2 ≤ symbol) × (symbol ≤ length (line_bytes text.now at end)) }
@@ -130,29 +134,35 @@ fn judge_program(text: &[u8], at: usize, end: usize, symbol: usize, counts: Coun
     let line = counts.lines + 1;
     let from = at + 4;
     let middle = at + 2 * symbol;
-    let flaw = flaws::program_flaw(&text[from..middle], &text[middle..end]);
-    let Flaw::Good = flaw else {
-        return Verdict::Refused(Refusal::BadText(line));
+    let first = Hex {
+        chars: &text[from..middle],
+    };
+    let second = Hex {
+        chars: &text[middle..end],
+    };
+    let flaw = flaws::program_flaw(first, second);
+    let Ok(()) = flaw else {
+        return Err(Refusal::BadText(line));
     };
     let full = BpfObject::PROGRAMS <= counts.programs;
-    let limit = flaws::program_limit(&text[from..middle], &text[middle..end], full);
-    let Limit::Kept = limit else {
-        return Verdict::Refused(Refusal::OverLimit(line));
+    let limit = flaws::program_limit(first, second, full);
+    let Ok(()) = limit else {
+        return Err(Refusal::OverLimit(line));
     };
     let section = name_at(from, middle);
     let symbol = name_at(middle, end);
-    Verdict::Takes(Order::Declares(Declaration::Program { section, symbol }))
+    Ok(Order::Declares(Declaration::Program { section, symbol }))
 }
 
 // Code of `n` bytes: it belongs to the open program.
-fn judge_code(n: usize, counts: Counts) -> Verdict
+fn judge_code(n: usize, counts: Counts) -> Result<Order, Refusal>
     requires { counts.lines < 65536 }
     ensures { (s : Stage) (text bs bytes : List ℕ) → Agrees s counts → frame_of bs ≡ some (code bytes) → length bytes ≡ n → n ≤ length bs → Judged text s bs result }
 {
     if counts.programs == 0 {
-        return Verdict::Refused(Refusal::Misplaced(counts.lines + 1));
+        return Err(Refusal::Misplaced(counts.lines + 1));
     }
-    Verdict::Takes(Order::Code(n))
+    Ok(Order::Code(n))
 }
 
 // The slot of a relocation whose line is from `at` to `end`, for map number `map`.
@@ -164,7 +174,6 @@ fn slot_at(at: usize, end: usize, map: usize) -> Slot
     ensures { result ≡ slot_at at end map }
 {
     Slot {
-        entry: Entry::Taken,
         place: (at + 2) as u16,
         len: ((end - (at + 18)) / 2) as u16,
         map: map as u8,
@@ -172,66 +181,67 @@ fn slot_at(at: usize, end: usize, map: usize) -> Slot
 }
 
 // A relocation: it belongs to the open program, and its map is declared.
-fn judge_relocation<'a>(
+fn judge_relocation(
     text: &[u8],
-    ats: &'a [u16],
-    lens: &'a [u16],
+    maps: &[NamedMap],
     at: usize,
     end: usize,
     counts: Counts,
-) -> Verdict
+) -> Result<Order, Refusal>
     requires framed { Framed text.now at end }
     requires lines_bound { counts.lines < 65536 }
-    requires maps_bound { counts.maps ≤ 64 }
+    requires maps_bound { length maps.now ≤ 64 }
     requires in_bounds { 9 ≤ length (line_bytes text.now at end) }
-    requires names { Names text.now ats.now lens.now counts.maps }
+    requires names { Names text.now maps.now }
     requires says { Says text.now at end (relocation_frame_of (line_bytes text.now at end)) }
-    ensures { (s : Stage) → Agrees s counts → Held text.now ats.now lens.now s → Judged text.now s (line_bytes text.now at end) result }
+    ensures { (s : Stage) → Agrees s counts → Held text.now maps.now s → Judged text.now s (line_bytes text.now at end) result }
 {
     let line = counts.lines + 1;
     if counts.programs == 0 {
-        return Verdict::Refused(Refusal::Misplaced(line));
+        return Err(Refusal::Misplaced(line));
     }
     let from = at + 18;
-    let flaw = flaws::name_flaw(&text[from..end]);
-    let Flaw::Good = flaw else {
-        return Verdict::Refused(Refusal::BadText(line));
+    let hex = Hex {
+        chars: &text[from..end],
     };
-    let limit = flaws::name_limit(&text[from..end], BpfObject::RELOCATIONS <= counts.relocs);
-    let Limit::Kept = limit else {
-        return Verdict::Refused(Refusal::OverLimit(line));
+    let flaw = flaws::name_flaw(hex);
+    let Ok(()) = flaw else {
+        return Err(Refusal::BadText(line));
     };
-    let found = lookup::find_map(text, ats, lens, counts.maps, &text[from..end]);
-    let Found::At(map) = found else {
-        return Verdict::Refused(Refusal::UnknownMap(line));
+    let limit = flaws::name_limit(hex, BpfObject::RELOCATIONS <= counts.relocs);
+    let Ok(()) = limit else {
+        return Err(Refusal::OverLimit(line));
     };
-    Verdict::Takes(Order::Reloc(slot_at(at, end, map)))
+    let found = lookup::find_map(text, maps, hex);
+    let Some(map) = found else {
+        return Err(Refusal::UnknownMap(line));
+    };
+    Ok(Order::Reloc(slot_at(at, end, map)))
 }
 
 // What the table does with a line's frame.
-pub fn judge_frame<'a>(
+pub fn judge_frame(
     text: &[u8],
-    ats: &'a [u16],
-    lens: &'a [u16],
+    maps: &[NamedMap],
     at: usize,
     end: usize,
     frame: Frame,
     counts: Counts,
-) -> Verdict
+) -> Result<Order, Refusal>
     requires framed { Framed text.now at end }
     requires lines_bound { counts.lines < 65536 }
-    requires maps_bound { counts.maps ≤ 64 }
-    requires names { Names text.now ats.now lens.now counts.maps }
+    requires maps_bound { length maps.now ≤ 64 }
+    requires names { Names text.now maps.now }
     requires says { Says text.now at end (shown (line_bytes text.now at end) frame) }
     requires placed { Placed (line_bytes text.now at end) frame }
-    ensures { (s : Stage) → Agrees s counts → Held text.now ats.now lens.now s → Judged text.now s (line_bytes text.now at end) result }
+    ensures { (s : Stage) → Agrees s counts → Held text.now maps.now s → Judged text.now s (line_bytes text.now at end) result }
 {
     match frame {
         Frame::Licence => judge_license(text, at, end, counts.lines),
-        Frame::Map { decl, name } => judge_map(text, at, end, decl, name, counts),
+        Frame::Map { decl, name } => judge_map(text, at, end, decl, name, counts, maps.len()),
         Frame::Program { symbol } => judge_program(text, at, end, symbol, counts),
         Frame::Code => judge_code((end - at) / 2 - 1, counts),
-        Frame::Relocation => judge_relocation(text, ats, lens, at, end, counts),
+        Frame::Relocation => judge_relocation(text, maps, at, end, counts),
         Frame::Instruction => judge_code(Insn::SIZE, counts),
     }
 }

@@ -11,6 +11,8 @@ use lib.Seq.{get_or-drop, get_or-take, length-take-le}
 use Rattle.octets.proofs.Tests.{and_true_both}
 use Rattle.lines.specs.Lines.{digit, pair, unhex}
 use Rattle.lines.specs.Hex.{there, is_hex, bytes_in, bytes_of}
+use Rattle.lines.specs.Bytes.{bytes}
+use Rattle.lines.specs.declared.Hex.{Hex}
 use Rattle.lines.proofs.Laws.{there-pair, byte_on}
 
 -- the number of a digit
@@ -116,3 +118,15 @@ part_length s i n t h =
 
 pub part_byte : (s : List ℕ) (i n k : ℕ) → k < n → get_or (take n (drop i (bytes_in s))) k 0 ≡ get_or (bytes_in s) (i + k) 0
 part_byte s i n k h = get_or-take n (drop i (bytes_in s)) k 0 h ∙ get_or-drop i (bytes_in s) k 0
+
+-- ---- the same of `Hex`, which keeps that its characters are hexadecimal
+
+pub chars_twice : (h : Hex) → length h.chars.now ≡ 2 * length (bytes h)
+chars_twice h = bytes_length h.chars.now h.hex
+
+pub digit_in : (h : Hex) (k : ℕ) → k < length h.chars.now → there (digit (get_or h.chars.now k 0)) ≡ true
+digit_in h = digit_at h.chars.now h.hex
+
+pub byte_in : (h : Hex) (i x y : ℕ) → i < length (bytes h) → some x ≡ digit (get_or h.chars.now (2 * i) 0)
+    → some y ≡ digit (get_or h.chars.now (2 * i + 1) 0) → x * 16 + y ≡ get_or (bytes h) i 0
+byte_in h i x y l = let n = chars_twice h in byte_here h.chars.now i x y (omega arith) h.hex

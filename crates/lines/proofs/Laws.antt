@@ -5,15 +5,14 @@ use mathlib.Core.Option.{Option, none, some}
 use mathlib.Core.List.{List, [], ◌∷◌}
 use mathlib.Core.Logic.{◌⊎◌, inl, inr, ⊎_elim}
 use Prim.Native.Nat.{ℕ, suc, ◌+◌, ◌-◌, ◌*◌, ◌≤◌, ◌<◌}
-use native.Mathlib.Nat.{add-zero}
 use native.Mathlib.Omega.{arith}
 use lib.Dec.{eqb, leb}
 use Rattle.octets.specs.Octets.{within}
 use lib.ListN.{length, take, drop, get_or, length-drop}
 use lib.Seq.{drop-drop}
-use borrow.Author.Tests.{eq-eqb, ne_eqb, eqb-false, leb-true}
+use borrow.Author.Tests.{ne_eqb, eqb-false, leb-true}
 use Rattle.lines.specs.Lines.{Line, lines, before, digit, pair, unhex}
-use Rattle.octets.proofs.Laws.{read_on, read_done}
+use Rattle.octets.proofs.Laws.{read_on}
 use Rattle.octets.proofs.Tests.{and_true_both}
 use Rattle.octets.specs.Told.{gives, refuses}
 use Rattle.lines.specs.Ends.{end_of, line_end}
@@ -29,12 +28,6 @@ before_end i c (l ∷ ls) =
 
 pub end_on : (s : List ℕ) (i : ℕ) → i < length s → (get_or s i 0 ≡ 10 → ⊥) → line_end s i ≡ line_end s (i + 1)
 end_on s i h n = rw (read_on s i h) (simp (ne_eqb _ _ n) (before_end i (get_or s i 0) (lines (drop (i + 1) s))))
-
-pub end_here : (s : List ℕ) (i : ℕ) → i < length s → get_or s i 0 ≡ 10 → line_end s i ≡ gives i
-end_here s i h e = rw (read_on s i h) (simp (eq-eqb _ _ e, add-zero))
-
-pub end_none : (s : List ℕ) (i : ℕ) → length s ≤ i → line_end s i ≡ refuses 2
-end_none s i h = rw (read_done s i h)
 
 -- ---- hexadecimal
 

@@ -1,9 +1,7 @@
 -- Where a line ends, by places in the text.
-use Rattle.std.specs.Prelude.{Bool, false, cond, ◌||◌, List, [], ◌∷◌, ℕ, ◌+◌, length, drop, eqb}
+use Rattle.std.specs.Prelude.{Bool, false, cond, ◌||◌, List, [], ◌∷◌, ℕ, ◌+◌, length, drop, eqb, Option, None, Some}
 use Rattle.octets.specs.Told.{Told, gives, refuses}
 use Rattle.lines.specs.Lines.{Line, lines}
-use Rattle.lines.specs.declared.LineEnd.{LineEnd}
-use Rattle.lines.specs.declared.LineEnd.TheVariants.{Ended, Cut}
 
 -- the end of the first of the lines from `at` on; a line that no LF ends is refused 2
 abbrev pub end_of : ℕ → List Line → Told ℕ
@@ -15,9 +13,9 @@ abbrev pub line_end : List ℕ → ℕ → Told ℕ
 line_end s at = end_of at (lines (drop at s))
 
 -- what the code's answer says
-abbrev pub end_told : LineEnd → Told ℕ
-end_told (Ended e) = gives e
-end_told Cut = refuses 2
+abbrev pub end_told : Option ℕ → Told ℕ
+end_told (Some e) = gives e
+end_told None = refuses 2
 
 -- whether an LF is among characters
 abbrev pub holds_end : List ℕ → Bool

@@ -1,3 +1,4 @@
 pub mod Lines
 pub mod Ends
 pub mod Hex
+pub mod Bytes

@@ -1,37 +1,26 @@
 // The lookup of a map: the last one that is declared under a raw name.
 #![tactic(auto)]
 
-ghost use Rattle.std.specs.Prelude.{◌≡◌, true, ◌*◌, ◌+◌, ◌-◌, ◌<◌};
-ghost use Rattle.lines.specs.Hex.{is_hex, bytes_in};
+ghost use Rattle.std.specs.Prelude.{◌≡◌, length};
+ghost use Rattle.lines.specs.Bytes.{bytes};
 ghost use Rattle.lookup.specs.Names.{Names, Finds, FoundIn};
 
-#[derive(Clone, Copy)]
-pub enum Found {
-    At(usize),
-    Nothing,
-}
+use ast::NamedMap;
+use lines::Hex;
 
-// The last of `count` maps whose raw name is `name`. Equal names have equal text, since only lower-case digits pass.
-pub fn find_map<'a>(
-    text: &[u8],
-    ats: &'a [u16],
-    lens: &'a [u16],
-    count: usize,
-    name: &[u8],
-) -> Found
-    requires name_value { is_hex name.now ≡ true }
-    requires names { Names text.now ats.now lens.now count }
-    ensures finds { Finds text.now ats.now lens.now count (bytes_in name.now) result }
-    ensures found_in { FoundIn count result }
+// The last of the maps whose raw name is `name`. Equal names have equal text, since only lower-case digits pass.
+pub fn find_map(text: &[u8], maps: &[NamedMap], name: Hex) -> Option<usize>
+    requires { Names text.now maps.now }
+    ensures finds { Finds text.now maps.now (bytes name.entry) result }
+    ensures found_in { FoundIn (length maps.now) result }
 {
-    let mut i = count;
-    while 0 < i {
-        i -= 1;
-        let at = ats[i] as usize;
-        let end = at + 2 * (lens[i] as usize);
-        if octets::same(name, &text[at..end]) {
-            return Found::At(i);
+    for i in (0..maps.len()).rev() {
+        let own = maps[i].name;
+        let at = own.at as usize;
+        let end = at + 2 * (own.len as usize);
+        if octets::same(name.chars, &text[at..end]) {
+            return Some(i);
         }
     }
-    Found::Nothing
+    None
 }

@@ -3,7 +3,6 @@
 // fails ends it with that error.
 #![tactic(auto)]
 
-use maker::Making;
 use std::io;
 use std::io::Write;
 
@@ -13,16 +12,6 @@ const OUTPUT: usize = 65536;
 // The room for the job: one byte more than a job may have, so that a longer one is seen to be longer.
 const ROOM: usize = 65536;
 
-// The one line that a refused job gets.
-fn say_refused<P: Print>(rt: &P, made: Making) -> io::Result<()> {
-    let Making::Refused(refusal) = made else {
-        return Ok(());
-    };
-    let number = refusal.number();
-    let line = refusal.line();
-    println!(rt; "refused {number} line {line}")
-}
-
 // The object at the front of the output.
 fn put_object<P: Print>(rt: &P, out: &[u8], len: usize) -> io::Result<()> {
     if len <= out.len() {
@@ -31,22 +20,18 @@ fn put_object<P: Print>(rt: &P, out: &[u8], len: usize) -> io::Result<()> {
     Ok(())
 }
 
-// The job, answered.
+// The job, answered: a refusal prints itself.
 fn answer<P: Print>(rt: &P, job: &[u8]) -> io::Result<()> {
     let mut out = [0u8; OUTPUT];
-    let made = maker::make(job, &mut out);
-    let Making::Made(len) = made else {
-        return say_refused(rt, made);
-    };
-    put_object(rt, &out, len)
+    match maker::make(job, &mut out) {
+        Ok(len) => put_object(rt, &out, len),
+        Err(refusal) => println!(rt; "{refusal}"),
+    }
 }
 
 fn main(rt: HostRuntime) -> io::Result<()> {
     let mut job = [0u8; ROOM];
     let mut input = rt.stdin();
     let n = input::read_full(&mut input, &mut job)?;
-    if n <= ROOM {
-        answer(&rt, &job[0..n])?;
-    }
-    Ok(())
+    answer(&rt, &job[0..n])
 }

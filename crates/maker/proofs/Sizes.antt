@@ -37,13 +37,7 @@ use Rattle.sections.proofs.Alike.{alike_all, alike_laid, alike_aligned, rows_hea
 
 module _ (text : List ℕ) (o : BpfObject) (k : Kept text o) where
   pub rooms : (room : ℕ) → room ≡ rooms_of (take o.map_count o.maps) → (map_types 6 0 (declared_maps text o)).size ≡ room
-  rooms room e =
-      let n = o.map_count in
-      let d = length-take-le n o.maps (omega (arith, k.sound)) in
-      let a = length-take-le n o.map_at (omega (arith, k.sound)) in
-      let l = length-take-le n o.map_len (omega (arith, k.sound)) in
-      let r = rooms_size text 6 0 (take n o.maps) (take n o.map_at) (take n o.map_len) (omega (arith, d, a)) (omega (arith, d, l)) in
-      omega (arith, r, e)
+  rooms room e = omega (arith, rooms_size text 6 0 (take o.map_count o.maps), e)
 
   -- the licence has at most 64 bytes
   pub licence_short : licence_len o.license ≤ 64

@@ -20,6 +20,7 @@ use Rattle.elf.proofs.Joined.{places_at_lem, count_places}
 use Rattle.elf.proofs.Places.{Aligned, length-file}
 use Rattle.btf.specs.Btf.{btf_bytes}
 use Rattle.btf.specs.Maps.{map_types, btf_types}
+use Rattle.std.specs.Prelude.{Option}
 use Rattle.object.specs.declared.Slot.{Slot}
 use Rattle.object.specs.declared.Program.{Program}
 use Rattle.object.specs.declared.BpfObject.{BpfObject}
@@ -96,14 +97,14 @@ module _ (j : Job) (z : Sizes) (s : SizesOf j z) where
 
 -- ---- the programs of the tables
 
-same_programs : (text : List ℕ) (slots : List Slot) (n : ℕ) (ps : List Program) → AllCounted text slots ps → AllKept text n ps → AllSame (programs_in text slots ps) ps
+same_programs : (text : List ℕ) (slots : List (Option Slot)) (n : ℕ) (ps : List Program) → AllCounted text slots ps → AllKept text n ps → AllSame (programs_in text slots ps) ps
 same_programs text slots n [] c k = tt
 same_programs text slots n (p ∷ ps) c k = (
   record { section = name_length text p.section k.0.section; code = k.0.code; relocations = c.0 },
   same_programs text slots n ps c.1 k.1,
 )
 
-number_of_lem : (text : List ℕ) (slots : List Slot) (at : ℕ) (ps : List Program) → AllCounted text slots ps → past_all (programs_in text slots ps) at ≡ behind_all ps at
+number_of_lem : (text : List ℕ) (slots : List (Option Slot)) (at : ℕ) (ps : List Program) → AllCounted text slots ps → past_all (programs_in text slots ps) at ≡ behind_all ps at
 number_of_lem text slots at [] c = refl
 number_of_lem text slots at (p ∷ ps) c =
     let b = past_of at (program_in text slots p).relocations ∙ ap (λ (n : ℕ). behind n at) c.0 in
@@ -143,25 +144,27 @@ object-length j =
 -- ---- the whole
 
 -- the headers and the answer, when all sections are measured
-pub measured_is : (j : Job) (rows : List code.Section) (m : Measuring) (at : ℕ) → Rows (sections_of j) rows m [] → m.names ≡ length (shstrtab_of j) → at ≡ align_to 8 m.end
+measured_is : (j : Job) (rows : List code.Section) (m : Measuring) (at : ℕ) → Rows (sections_of j) rows m [] → m.names ≡ length (shstrtab_of j) → at ≡ align_to 8 m.end
     → (rows ≡ rows_of j) × (◌≡◌ {A = Measured} (record { count = m.count; at = at; names = m.names; len = at + 64 * m.count }) (measured_of j))
 measured_is j rows m at r names e =
     let n : m.count ≡ suc (length (sections_of j)) = omega (arith, r.counted) in
     let a : at ≡ align_to 8 (end_of 64 (sections_of j)) = e ∙ ap (align_to 8) r.ends in
     (sym (r.is ∙ append-nil rows), rw (n, a, names, object-length j))
 
--- all headers that the code writes
-abbrev pub all_rows : Sizes → BpfObject → ℕ → List code.Section
+-- all headers that the code writes, and the state after them
+abbrev all_rows : Sizes → BpfObject → ℕ → List code.Section
 all_rows z o symtab =
     let before = front z o.map_count in
     let declared = after_programs before symtab (take o.program_count o.programs) in
     (front_rows z o.map_count ++ program_rows before symtab (take o.program_count o.programs)) ++ table_rows declared (2 + o.map_count + o.program_count) z.strtab
 
+abbrev pub after_all : Sizes → BpfObject → ℕ → Measuring
+after_all z o symtab =
+    tabled (after_programs (front z o.map_count) symtab (take o.program_count o.programs)) (2 + o.map_count + o.program_count) z.strtab
+
 module _ (text : List ℕ) (o : BpfObject) (k : Kept text o) (z : Sizes) (s : SizesOf (job_in text o) z) where
-  pub rows_whole : (first symtab : ℕ) → first ≡ first_of o.map_count → symtab ≡ behind_all (take o.program_count o.programs) first
-      → let declared = after_programs (front z o.map_count) symtab (take o.program_count o.programs) in
-      let whole = tabled declared (2 + o.map_count + o.program_count) z.strtab in
-      Rows (sections_of (job_in text o)) (all_rows z o symtab) whole [] × (whole.names ≡ length (shstrtab_of (job_in text o)))
+  rows_whole : (first symtab : ℕ) → first ≡ first_of o.map_count → symtab ≡ behind_all (take o.program_count o.programs) first
+      → Rows (sections_of (job_in text o)) (all_rows z o symtab) (after_all z o symtab) [] × ((after_all z o symtab).names ≡ length (shstrtab_of (job_in text o)))
   rows_whole first symtab f t =
       let n = count_declared text o k in
       let ps = take o.program_count o.programs in
@@ -174,3 +177,13 @@ module _ (text : List ℕ) (o : BpfObject) (k : Kept text o) (z : Sizes) (s : Si
       (program_sections y (front z (length (declared_maps text o))).count j.programs ++ table_sections j)) (sym number) (rows-front j z s)) in
       let declared = rows_programs (sections_of j) symtab (table_sections j) (front_rows z o.map_count) (front z o.map_count) j.programs ps (same_programs text o.slots o.reloc_count ps (all_counted text o k) k.programs) before in
       rows_tables j z s _ _ (2 + o.map_count + o.program_count) (symtab_long text o k) declared
+
+  pub whole_is : (first at : ℕ) → first ≡ first_of o.map_count
+      → let symtab = behind_all (take o.program_count o.programs) first in
+      let whole = after_all z o symtab in
+      at ≡ align_to 8 whole.end
+      → (all_rows z o symtab ≡ rows_of (job_in text o)) × (◌≡◌ {A = Measured} (record { count = whole.count; at = at; names = whole.names; len = at + 64 * whole.count }) (measured_of (job_in text o)))
+  whole_is first at f e =
+      let symtab = behind_all (take o.program_count o.programs) first in
+      let r = rows_whole first symtab f refl in
+      measured_is (job_in text o) (all_rows z o symtab) (after_all z o symtab) at r.0 r.1 e

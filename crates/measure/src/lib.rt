@@ -37,7 +37,8 @@ impl Measured {
     pub const TABLE: usize = (Section::AFTER_BTF + 2 * BpfObject::PROGRAMS + 3) * Section::SIZE;
 }
 
-// The sections so far: their number, header 0 counted, where they end, and how long their names are.
+// The sections so far: their number, header 0 counted, where they end, and how long their names are. The table of their headers goes beside
+// it: each method of a struct that holds the table would have to say that it is still the one that was lent, and how long it is.
 #[derive(Clone, Copy)]
 struct Measuring {
     count: usize,
@@ -51,8 +52,13 @@ impl Measuring {
 }
 
 // One section more, whose name has `name` bytes: its header goes after those that are there.
-fn add_section(table: &mut [u8], m: Measuring, section: Section, name: usize) -> Measuring
-    requires count_bound { (m.count < 71) × (length table.old ≡ 4544) }
+fn add_section(
+    table: &mut [u8; Measured::TABLE],
+    m: Measuring,
+    section: Section,
+    name: usize,
+) -> Measuring
+    requires count_bound { m.count < 71 }
     requires size_bound { section.at + section.size < 2 ^ 64 }
     requires name_bound { m.names + name + 1 < 2 ^ 64 }
     ensures table_after { table.new ≡ over table.old (64 * m.count) (headers_bytes (section ∷ [])) }
@@ -110,24 +116,20 @@ fn rel(name: usize, end: u64, relocs: u16, symtab: usize, number: usize) -> Sect
 }
 
 // The number of the section after all programs' sections.
-fn number_behind(first: usize, programs: [Program; BpfObject::PROGRAMS], count: usize) -> usize
-    requires { (first ≤ 4) × (count ≤ 32) × (length programs ≡ 32) }
-    ensures value { result ≡ behind_all (take count programs) first }
+fn number_behind(first: usize, programs: &[Program]) -> usize
+    requires { (first ≤ 4) × (length programs.now ≤ 32) }
+    ensures value { result ≡ behind_all programs.now first }
     ensures upper_bound { result ≤ 68 }
 {
     let mut number = first;
-    let mut i = 0;
-    while i < count {
-        let program = programs[i];
+    for program in programs {
         number = strtab::section_behind(number, program.relocs);
-        i += 1;
     }
     number
 }
 
 // Header 0 alone.
-fn begin(table: &mut [u8]) -> Measuring
-    requires { length table.old ≡ 4544 }
+fn begin(table: &mut [u8; Measured::TABLE]) -> Measuring
     ensures table_after { table.new ≡ over table.old 0 (headers_bytes (null_section ∷ [])) }
     ensures value { result ≡ begun }
 {
@@ -140,9 +142,13 @@ fn begin(table: &mut [u8]) -> Measuring
 }
 
 // A program's section, and its REL section if it has relocations; `symtab` is the number of the symbol table's section.
-fn measure_program(table: &mut [u8], m: Measuring, program: Program, symtab: usize) -> Measuring
+fn measure_program(
+    table: &mut [u8; Measured::TABLE],
+    m: Measuring,
+    program: Program,
+    symtab: usize,
+) -> Measuring
     requires low { Low 68 m }
-    requires table_len { length table.old ≡ 4544 }
     requires symtab_bound { (symtab ≤ 68) × (program.section.len ≤ 64) }
     ensures table_after { table.new ≡ over table.old (64 * m.count) (headers_bytes (program_row m symtab program)) }
     ensures value { result ≡ programmed m symtab program }
@@ -168,58 +174,47 @@ fn measure_program(table: &mut [u8], m: Measuring, program: Program, symtab: usi
 
 // The programs' sections.
 fn measure_programs(
-    table: &mut [u8],
+    table: &mut [u8; Measured::TABLE],
     start: Measuring,
-    programs: [Program; BpfObject::PROGRAMS],
-    count: usize,
+    programs: &[Program],
     symtab: usize,
 ) -> Measuring
     requires low { Low 4 start }
-    requires count_bound { (count ≤ 32) × (length programs ≡ 32) }
-    requires table_len { length table.old ≡ 4544 }
-    requires symtab_bound { (symtab ≤ 68) × ShortNames (take count programs) }
-    ensures table_after { table.new ≡ over table.old (64 * start.count) (headers_bytes (program_rows start symtab (take count programs))) }
-    ensures value { result ≡ after_programs start symtab (take count programs) }
-    ensures low_2 { Low (4 + 2 * count) result }
+    requires few { length programs.now ≤ 32 }
+    requires symtab_bound { (symtab ≤ 68) × ShortNames programs.now }
+    ensures table_after { table.new ≡ over table.old (64 * start.count) (headers_bytes (program_rows start symtab programs.now)) }
+    ensures value { result ≡ after_programs start symtab programs.now }
+    ensures low_2 { Low (4 + 2 * length programs.now) result }
 {
     let mut m = start;
-    let mut i = 0;
-    while i < count {
-        let program = programs[i];
-        m = measure_program(table, m, program, symtab);
-        i += 1;
+    for program in programs {
+        m = measure_program(table, m, *program, symtab);
     }
     m
 }
 
-// The sections of the object's programs, the first of which has the number `first`. With no program, no table is passed on, since a table
-// that is passed is copied.
+// The sections of the object's programs, the first of which has the number `first`.
 fn measure_declared(
-    table: &mut [u8],
+    table: &mut [u8; Measured::TABLE],
     start: Measuring,
-    object: BpfObject,
+    object: &BpfObject,
     first: usize,
 ) -> Measuring
     requires low { Low 4 start }
-    requires program_count_bound { (object.program_count ≤ 32) × (length object.programs ≡ 32) }
-    requires table_len { length table.old ≡ 4544 }
-    requires first_bound { (first ≤ 4) × ShortNames (take object.program_count object.programs) }
-    ensures table_after { table.new ≡ over table.old (64 * start.count) (headers_bytes (declared_rows start first (take object.program_count object.programs))) }
-    ensures value { result ≡ after_declared start first (take object.program_count object.programs) }
-    ensures low_2 { Low (4 + 2 * object.program_count) result }
+    requires program_count_bound { (object.now.program_count ≤ 32) × (length object.now.programs ≡ 32) }
+    requires first_bound { (first ≤ 4) × ShortNames (take object.now.program_count object.now.programs) }
+    ensures table_after { table.new ≡ over table.old (64 * start.count) (headers_bytes (declared_rows start first (take object.now.program_count object.now.programs))) }
+    ensures value { result ≡ after_declared start first (take object.now.program_count object.now.programs) }
+    ensures low_2 { Low (4 + 2 * object.now.program_count) result }
 {
-    let count = object.program_count;
-    if count == 0 {
-        return start;
-    }
-    let programs = object.programs;
-    let symtab = number_behind(first, programs, count);
-    measure_programs(table, start, programs, count, symtab)
+    let programs = object.programs();
+    let symtab = number_behind(first, programs);
+    measure_programs(table, start, programs, symtab)
 }
 
 // One more section without link, info and entry size, whose name has `name` bytes.
 fn add_plain(
-    table: &mut [u8],
+    table: &mut [u8; Measured::TABLE],
     m: Measuring,
     name: usize,
     sh_type: u32,
@@ -228,7 +223,6 @@ fn add_plain(
     size: usize,
 ) -> Measuring
     requires low { Low 70 m }
-    requires table_len { length table.old ≡ 4544 }
     requires alignment { Alignment align }
     requires size_bound { (size ≤ 2000000) × (name ≤ 260) }
     ensures table_after { table.new ≡ over table.old (64 * m.count) (headers_bytes (plain_on m sh_type flags align size ∷ [])) }
@@ -239,9 +233,8 @@ fn add_plain(
 }
 
 // What is before the programs' sections: the licence, and `.maps` and `.BTF` if there are maps.
-fn measure_front(table: &mut [u8], sizes: Sizes, maps: usize) -> Measuring
+fn measure_front(table: &mut [u8; Measured::TABLE], sizes: Sizes, maps: usize) -> Measuring
     requires small { Small sizes }
-    requires table_len { length table.old ≡ 4544 }
     ensures table_after { table.new ≡ over table.old 0 (headers_bytes (front_rows sizes maps)) }
     ensures value { result ≡ front sizes maps }
 {
@@ -279,9 +272,13 @@ fn measure_front(table: &mut [u8], sizes: Sizes, maps: usize) -> Measuring
 }
 
 // The three tables after the programs' sections: `.symtab`, `.strtab` and `.shstrtab`, which holds its own name too.
-fn measure_tables(table: &mut [u8], m: Measuring, symbols: usize, strtab: usize) -> Measuring
+fn measure_tables(
+    table: &mut [u8; Measured::TABLE],
+    m: Measuring,
+    symbols: usize,
+    strtab: usize,
+) -> Measuring
     requires low { Low 68 m }
-    requires table_len { length table.old ≡ 4544 }
     requires symbols_bound { symbols ≤ 98 }
     requires strtab_bound { strtab ≤ 10000 }
     ensures table_after { table.new ≡ over table.old (64 * m.count) (headers_bytes (table_rows m symbols strtab)) }
@@ -311,22 +308,23 @@ fn measure_tables(table: &mut [u8], m: Measuring, symbols: usize, strtab: usize)
 
 // Measures the object, and puts the headers of its sections at the front of `table`. `object` has the tables of `text`, and `sizes` the
 // sizes of its sections.
-pub fn measure(text: &[u8], table: &mut [u8], object: BpfObject, sizes: Sizes) -> Measured
-    requires kept { Kept text.now object }
-    requires sizes_of { SizesOf (job_in text.now object) sizes }
+pub fn measure(text: &[u8], table: &mut [u8], object: &BpfObject, sizes: Sizes) -> Measured
+    requires kept { Kept text.now object.now }
+    requires sizes_of { SizesOf (job_in text.now object.now) sizes }
     requires small { Small sizes }
     requires table_len { length table.old ≡ 4544 }
-    ensures table_after { table.new ≡ over table.old 0 (headers_bytes (rows_of (job_in text.now object))) }
-    ensures value { result ≡ measured_of (job_in text.now object) }
+    ensures table_after { table.new ≡ over table.old 0 (headers_bytes (rows_of (job_in text.now object.now))) }
+    ensures value { result ≡ measured_of (job_in text.now object.now) }
     ensures len_bound { result.len ≤ 200000000 }
 {
+    let rows = table.as_mut_array().unwrap();
     let maps = object.map_count;
     let count = object.program_count;
     let first = strtab::first_program(maps);
-    let before = measure_front(table, sizes, maps);
-    let declared = measure_declared(table, before, object, first);
+    let before = measure_front(rows, sizes, maps);
+    let declared = measure_declared(rows, before, object, first);
     let whole = measure_tables(
-        table,
+        rows,
         declared,
         Symbol::FIRST_MAP + maps + count,
         sizes.strtab,

@@ -3,6 +3,7 @@
 use mathlib.Core.Path.{◌≡◌, refl, sym, ◌∙◌, ap}
 use mathlib.Core.List.{List, [], ◌∷◌, ◌++◌}
 use Prim.Native.Nat.{ℕ, ◌+◌, ◌≤◌}
+use native.Mathlib.Nat.{add-zero}
 use native.Mathlib.Omega.{arith}
 use lib.ListN.{length, length-append}
 use Rattle.octets.specs.Over.{over}
@@ -11,24 +12,22 @@ use Rattle.written.specs.Written.{written}
 use Rattle.ast.specs.Job.{Map}
 use Rattle.ast.specs.declared.MapType.{MapType}
 use Rattle.ast.specs.declared.MapDecl.{MapDecl}
-use Rattle.ast.specs.declared.TypeAttr.{TypeAttr}
-use Rattle.ast.specs.declared.TypeAttr.TheVariants.{Absent, Present}
-use Rattle.ast.specs.declared.CountAttr.{CountAttr}
-use Rattle.ast.specs.declared.CountAttr.TheVariants as count
+use Rattle.ast.specs.declared.Attr.{Attr}
+use Rattle.ast.specs.declared.«Type».{«Type» as MemberType}
+use Rattle.ast.specs.declared.Attr.TheVariants.{Absent, Present}
 use Rattle.btf.specs.declared.BtfBuilder.{BtfBuilder}
 use Rattle.btf.specs.Btf.{type_bytes, var}
 use Rattle.btf.specs.Maps.{attributes}
-use Rattle.btf.specs.Builder.{bytes_at, past, moved}
-use Rattle.btf.proofs.Builder.{same_builder}
+use Rattle.btf.specs.Builder.{bytes_at, past, moved, Within}
 use Rattle.members.specs.Attributes.{attrs_bytes, attrs_passed}
 use Rattle.members.specs.Members.{decl_room, struct_bytes, map_pieces, struct_end}
 use Rattle.members.specs.Section.{one_map, map_built}
 
 -- a declaration, and the map that it is under a name
-abbrev decl : MapType → TypeAttr → TypeAttr → CountAttr → MapDecl
+abbrev decl : MapType → Attr MemberType → Attr MemberType → Attr ℕ → MapDecl
 decl kind key value entries = record { map_type = kind; key_type = key; value_type = value; max_entries = entries }
 
-abbrev named : List ℕ → MapType → TypeAttr → TypeAttr → CountAttr → Map
+abbrev named : List ℕ → MapType → Attr MemberType → Attr MemberType → Attr ℕ → Map
 named name kind key value entries = record { name = name; kind = kind; key = key; value = value; entries = entries }
 
 pub record AttrsEnd (b : BtfBuilder) (d : MapDecl) : Type 0 where
@@ -42,74 +41,74 @@ pub record StructEnd (b : BtfBuilder) (d : MapDecl) : Type 0 where
   pub next : (struct_end b d).next_type_id ≤ b.next_type_id + 7
   pub some : 1 ≤ (struct_end b d).next_type_id
 
-bytes_case : (b : BtfBuilder) (name : List ℕ) (kind : MapType) (key value : TypeAttr) (entries : CountAttr) →
+bytes_case : (b : BtfBuilder) (name : List ℕ) (kind : MapType) (key value : Attr MemberType) (entries : Attr ℕ) →
     let d = decl kind key value entries in
     let m = named name kind key value entries in
     bytes_at b.strings (one_map b.next_type_id m)
     ≡ map_pieces b d ++ type_bytes ((struct_end b d).strings ∷ []) (var [] (attributes b.next_type_id m).next)
-bytes_case b name kind Absent Absent count.Absent = refl
-bytes_case b name kind Absent Absent (count.Present n) = refl
-bytes_case b name kind Absent (Present u) count.Absent = refl
-bytes_case b name kind Absent (Present u) (count.Present n) = refl
-bytes_case b name kind (Present t) Absent count.Absent = refl
-bytes_case b name kind (Present t) Absent (count.Present n) = refl
-bytes_case b name kind (Present t) (Present u) count.Absent = refl
-bytes_case b name kind (Present t) (Present u) (count.Present n) = refl
+bytes_case b name kind Absent Absent Absent = refl
+bytes_case b name kind Absent Absent (Present n) = refl
+bytes_case b name kind Absent (Present u) Absent = simp add-zero
+bytes_case b name kind Absent (Present u) (Present n) = simp add-zero
+bytes_case b name kind (Present t) Absent Absent = simp add-zero
+bytes_case b name kind (Present t) Absent (Present n) = simp add-zero
+bytes_case b name kind (Present t) (Present u) Absent = simp add-zero
+bytes_case b name kind (Present t) (Present u) (Present n) = simp add-zero
 
-strings_case : (b : BtfBuilder) (name : List ℕ) (kind : MapType) (key value : TypeAttr) (entries : CountAttr) →
+strings_case : (b : BtfBuilder) (name : List ℕ) (kind : MapType) (key value : Attr MemberType) (entries : Attr ℕ) →
     let d = decl kind key value entries in
     let m = named name kind key value entries in
     (struct_end b d).strings + (length (written name) + 1) ≡ past b.strings (one_map b.next_type_id m)
-strings_case b name kind Absent Absent count.Absent = omega arith
-strings_case b name kind Absent Absent (count.Present n) = omega arith
-strings_case b name kind Absent (Present u) count.Absent = omega arith
-strings_case b name kind Absent (Present u) (count.Present n) = omega arith
-strings_case b name kind (Present t) Absent count.Absent = omega arith
-strings_case b name kind (Present t) Absent (count.Present n) = omega arith
-strings_case b name kind (Present t) (Present u) count.Absent = omega arith
-strings_case b name kind (Present t) (Present u) (count.Present n) = omega arith
+strings_case b name kind Absent Absent Absent = omega arith
+strings_case b name kind Absent Absent (Present n) = omega arith
+strings_case b name kind Absent (Present u) Absent = omega arith
+strings_case b name kind Absent (Present u) (Present n) = omega arith
+strings_case b name kind (Present t) Absent Absent = omega arith
+strings_case b name kind (Present t) Absent (Present n) = omega arith
+strings_case b name kind (Present t) (Present u) Absent = omega arith
+strings_case b name kind (Present t) (Present u) (Present n) = omega arith
 
-next_case : (b : BtfBuilder) (name : List ℕ) (kind : MapType) (key value : TypeAttr) (entries : CountAttr) →
+next_case : (b : BtfBuilder) (name : List ℕ) (kind : MapType) (key value : Attr MemberType) (entries : Attr ℕ) →
     (struct_end b (decl kind key value entries)).next_type_id ≡ (attributes b.next_type_id (named name kind key value entries)).next + 1
-next_case b name kind Absent Absent count.Absent = refl
-next_case b name kind Absent Absent (count.Present n) = refl
-next_case b name kind Absent (Present u) count.Absent = refl
-next_case b name kind Absent (Present u) (count.Present n) = refl
-next_case b name kind (Present t) Absent count.Absent = refl
-next_case b name kind (Present t) Absent (count.Present n) = refl
-next_case b name kind (Present t) (Present u) count.Absent = refl
-next_case b name kind (Present t) (Present u) (count.Present n) = refl
+next_case b name kind Absent Absent Absent = refl
+next_case b name kind Absent Absent (Present n) = refl
+next_case b name kind Absent (Present u) Absent = refl
+next_case b name kind Absent (Present u) (Present n) = refl
+next_case b name kind (Present t) Absent Absent = refl
+next_case b name kind (Present t) Absent (Present n) = refl
+next_case b name kind (Present t) (Present u) Absent = refl
+next_case b name kind (Present t) (Present u) (Present n) = refl
 
 -- where the attributes' types and the struct end
-attrs_case : (b : BtfBuilder) (kind : MapType) (key value : TypeAttr) (entries : CountAttr) → AttrsEnd b (decl kind key value entries)
-attrs_case b kind Absent Absent count.Absent = omega arith
-attrs_case b kind Absent Absent (count.Present n) = omega arith
-attrs_case b kind Absent (Present u) count.Absent = omega arith
-attrs_case b kind Absent (Present u) (count.Present n) = omega arith
-attrs_case b kind (Present t) Absent count.Absent = omega arith
-attrs_case b kind (Present t) Absent (count.Present n) = omega arith
-attrs_case b kind (Present t) (Present u) count.Absent = omega arith
-attrs_case b kind (Present t) (Present u) (count.Present n) = omega arith
+attrs_case : (b : BtfBuilder) (kind : MapType) (key value : Attr MemberType) (entries : Attr ℕ) → AttrsEnd b (decl kind key value entries)
+attrs_case b kind Absent Absent Absent = omega arith
+attrs_case b kind Absent Absent (Present n) = omega arith
+attrs_case b kind Absent (Present u) Absent = omega arith
+attrs_case b kind Absent (Present u) (Present n) = omega arith
+attrs_case b kind (Present t) Absent Absent = omega arith
+attrs_case b kind (Present t) Absent (Present n) = omega arith
+attrs_case b kind (Present t) (Present u) Absent = omega arith
+attrs_case b kind (Present t) (Present u) (Present n) = omega arith
 
-end_case : (b : BtfBuilder) (kind : MapType) (key value : TypeAttr) (entries : CountAttr) → StructEnd b (decl kind key value entries)
-end_case b kind Absent Absent count.Absent = omega arith
-end_case b kind Absent Absent (count.Present n) = omega arith
-end_case b kind Absent (Present u) count.Absent = omega arith
-end_case b kind Absent (Present u) (count.Present n) = omega arith
-end_case b kind (Present t) Absent count.Absent = omega arith
-end_case b kind (Present t) Absent (count.Present n) = omega arith
-end_case b kind (Present t) (Present u) count.Absent = omega arith
-end_case b kind (Present t) (Present u) (count.Present n) = omega arith
+end_case : (b : BtfBuilder) (kind : MapType) (key value : Attr MemberType) (entries : Attr ℕ) → StructEnd b (decl kind key value entries)
+end_case b kind Absent Absent Absent = omega arith
+end_case b kind Absent Absent (Present n) = omega arith
+end_case b kind Absent (Present u) Absent = omega arith
+end_case b kind Absent (Present u) (Present n) = omega arith
+end_case b kind (Present t) Absent Absent = omega arith
+end_case b kind (Present t) Absent (Present n) = omega arith
+end_case b kind (Present t) (Present u) Absent = omega arith
+end_case b kind (Present t) (Present u) (Present n) = omega arith
 
-room_case : (kind : MapType) (key value : TypeAttr) (entries : CountAttr) → decl_room (decl kind key value entries) ≤ 32
-room_case kind Absent Absent count.Absent = omega arith
-room_case kind Absent Absent (count.Present n) = omega arith
-room_case kind Absent (Present u) count.Absent = omega arith
-room_case kind Absent (Present u) (count.Present n) = omega arith
-room_case kind (Present t) Absent count.Absent = omega arith
-room_case kind (Present t) Absent (count.Present n) = omega arith
-room_case kind (Present t) (Present u) count.Absent = omega arith
-room_case kind (Present t) (Present u) (count.Present n) = omega arith
+room_case : (kind : MapType) (key value : Attr MemberType) (entries : Attr ℕ) → decl_room (decl kind key value entries) ≤ 32
+room_case kind Absent Absent Absent = omega arith
+room_case kind Absent Absent (Present n) = omega arith
+room_case kind Absent (Present u) Absent = omega arith
+room_case kind Absent (Present u) (Present n) = omega arith
+room_case kind (Present t) Absent Absent = omega arith
+room_case kind (Present t) Absent (Present n) = omega arith
+room_case kind (Present t) (Present u) Absent = omega arith
+room_case kind (Present t) (Present u) (Present n) = omega arith
 
 -- ---- the same for a declaration in a table
 
@@ -143,14 +142,7 @@ module _ (b : BtfBuilder) (d : MapDecl) (name : List ℕ) where
   pub map_length : length (bytes_at b.strings (one_map b.next_type_id (as_map d name))) ≡ length (map_pieces b d) + 16
   map_length = ap length map_bytes ∙ length-append (map_pieces b d) var_piece
 
-  -- what the call for the variable answers
-  pub map_done : (done r : BtfBuilder) (len : ℕ) → done ≡ struct_end b d → len ≡ length (written name) → r ≡ moved done 16 (len + 1) 1 → r ≡ map_built b (as_map d name)
-  map_done done r len p q e =
-      e ∙ rw (p, q)
-      (same_builder (moved (struct_end b d) 16 (length (written name) + 1) 1) (map_built b (as_map d name)) (omega (arith, (struct_end_lem b d).at, map_length)) map_strings_lem
-      (omega (arith, map_next)))
-
-  -- what it leaves
+  -- what the call for the variable leaves
   pub map_left : (out out₁ out₂ : List ℕ) (done : BtfBuilder) (id : ℕ) → b.at + length (map_pieces b d) ≤ length out → done ≡ struct_end b d → id + 1 ≡ done.next_type_id
       → out₁ ≡ over out b.at (map_pieces b d) → out₂ ≡ over out₁ done.at (type_bytes (done.strings ∷ []) (var [] id))
       → out₂ ≡ over out b.at (bytes_at b.strings (one_map b.next_type_id (as_map d name)))
@@ -166,3 +158,15 @@ pub pieces_left : (b b₁ : BtfBuilder) (d : MapDecl) (out out₁ out₂ : List 
 pieces_left b b₁ d out out₁ out₂ room q e f =
     over_two out b.at (attrs_bytes b d) (struct_bytes (attrs_passed b d) b.next_type_id d) out₁ out₂ (attrs_passed b d).at (omega arith) e (attrs_end b d).at
     (f ∙ ap (λ (x : BtfBuilder). over out₁ x.at (struct_bytes x b.next_type_id d)) q)
+
+-- and what the call for the struct asks
+pub pieces_room : (b b₁ : BtfBuilder) (d : MapDecl) (n room : ℕ) → Within (moved b (length (map_pieces b d)) 27 8) n → n ≡ room → b₁ ≡ attrs_passed b d
+    → Within (moved b₁ (length (struct_bytes b₁ b.next_type_id d)) 27 1) room
+pieces_room b b₁ d n room w p q =
+    let e = attrs_end b d in
+    rw q
+    (record {
+      at = omega (arith, w.at, e.at, length-append (attrs_bytes b d) (struct_bytes (attrs_passed b d) b.next_type_id d));
+      strings = omega (arith, w.strings, e.strings);
+      next = omega (arith, w.next, e.next);
+    })

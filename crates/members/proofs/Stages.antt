@@ -8,7 +8,7 @@ use lib.ListN.{length}
 use Rattle.octets.specs.Over.{over}
 use Rattle.octets.proofs.Going.{Going, go_start, go_as, go_room, go_on, go_done}
 use Rattle.btf.specs.declared.BtfBuilder.{BtfBuilder}
-use Rattle.btf.specs.Builder.{moved, passed, Within}
+use Rattle.btf.specs.Builder.{moved, Within}
 
 -- `d` with `whole` written over it from `start` on: so far it is `out`, the builder is `b`, and `rest` is still to come
 pub record Stage (d : List ℕ) (start : ℕ) (whole out : List ℕ) (b : BtfBuilder) (rest : List ℕ) (s k : ℕ) : Type 0 where
@@ -19,9 +19,6 @@ pub record Stage (d : List ℕ) (start : ℕ) (whole out : List ℕ) (b : BtfBui
 pub stage_start : (d whole : List ℕ) (b : BtfBuilder) (s k : ℕ) → Within (moved b (length whole) s k) (length d) → Stage d b.at whole d b whole s k
 stage_start d whole b s k w = record { going = go_start d b.at whole w.at; strings = w.strings; next = w.next }
 
-pub stage_begin : (d whole : List ℕ) (b : BtfBuilder) (k : ℕ) → Within (passed b (length whole) k) (length d) → Stage d b.at whole d b whole 0 k
-stage_begin d whole b k w = record { going = go_start d b.at whole w.at; strings = omega (arith, w.strings); next = w.next }
-
 pub stage_as : {d whole out rest : List ℕ} {start s k : ℕ} {b : BtfBuilder} (other : List ℕ) → rest ≡ other → Stage d start whole out b rest s k
     → Stage d start whole out b other s k
 stage_as other e g = record { going = go_as other e g.going; strings = g.strings; next = g.next }
@@ -31,10 +28,6 @@ pub stage_within : {d whole out : List ℕ} {start s k : ℕ} {b : BtfBuilder} (
     → s' ≤ s → k' ≤ k → Within (moved b (length t) s' k') (length out)
 stage_within t more s' k' g p q =
     record { at = go_room t more g.going; strings = omega (arith, g.strings); next = omega (arith, g.next) }
-
-pub stage_passed : {d whole out : List ℕ} {start s k : ℕ} {b : BtfBuilder} (t more : List ℕ) (k' : ℕ) → Stage d start whole out b (t ++ more) s k → k' ≤ k
-    → Within (passed b (length t) k') (length out)
-stage_passed t more k' g q = record { at = go_room t more g.going; strings = omega (arith, g.strings); next = omega (arith, g.next) }
 
 -- one piece more
 pub stage_on : {d whole out : List ℕ} {start s k : ℕ} {b : BtfBuilder} (t more out' : List ℕ) (b' : BtfBuilder) (s' k' : ℕ)

@@ -1,11 +1,9 @@
 -- The members of one map's struct, piece by piece: the bytes of each, and the state for the next one. An attribute that nobody declared has
 -- no member, so only the declared attributes are counted as positions.
-use Rattle.std.specs.Prelude.{List, [], ◌∷◌, ◌++◌, ℕ, ◌+◌, ◌*◌, ◌/◌, ◌^◌, ◌≤◌, ◌<◌}
+use Rattle.std.specs.Prelude.{List, [], ◌∷◌, ◌++◌, ℕ, ◌+◌, ◌-◌, ◌*◌, ◌/◌, ◌^◌, ◌≤◌, ◌<◌}
 use Rattle.ast.specs.declared.MapDecl.{MapDecl}
-use Rattle.ast.specs.declared.TypeAttr.{TypeAttr}
-use Rattle.ast.specs.declared.TypeAttr.TheVariants as type
-use Rattle.ast.specs.declared.CountAttr.{CountAttr}
-use Rattle.ast.specs.declared.CountAttr.TheVariants as count
+use Rattle.ast.specs.declared.Attr.{Attr}
+use Rattle.ast.specs.declared.Attr.TheVariants.{Absent, Present}
 use Rattle.btf.specs.declared.BtfBuilder.{BtfBuilder}
 use Rattle.btf.specs.Btf.{info}
 use Rattle.btf.specs.Maps.{map_room}
@@ -29,45 +27,37 @@ member_words s id = words (s.builder.strings ∷ id ∷ 64 * s.position ∷ [])
 abbrev pub members_on : Members → ℕ → ℕ → Members
 members_on s n k = record { builder = membered s.builder n; position = s.position + 1; id = s.id + k }
 
--- a number's pointer is the second of its two types
-abbrev pub number_member : Members → List ℕ
-number_member s = member_words s (s.id + 1)
+-- the member of an attribute that has `n` types: it names the last, which is a pointer
+abbrev pub value_member : ℕ → Members → List ℕ
+value_member n s = member_words s (s.id + (n - 1))
 
-abbrev pub type_member : TypeAttr → Members → List ℕ
-type_member type.Absent s = []
-type_member (type.Present t) s = member_words s s.id
+abbrev pub attr_member : {A : Type 0} → ℕ → Attr A → Members → List ℕ
+attr_member n Absent s = []
+attr_member n (Present x) s = value_member n s
 
-abbrev pub type_membered : TypeAttr → ℕ → Members → Members
-type_membered type.Absent n s = s
-type_membered (type.Present t) n s = members_on s n 1
-
-abbrev pub count_member : CountAttr → Members → List ℕ
-count_member count.Absent s = []
-count_member (count.Present n) s = number_member s
-
-abbrev pub count_membered : CountAttr → Members → Members
-count_membered count.Absent s = s
-count_membered (count.Present n) s = members_on s 12 2
+abbrev pub attr_membered : {A : Type 0} → ℕ → ℕ → Attr A → Members → Members
+attr_membered name n Absent s = s
+attr_membered name n (Present x) s = members_on s name n
 
 -- after `type`, after `key` and after `value`, which take 5, 4 and 6 bytes
 abbrev pub type_done : Members → Members
 type_done s = members_on s 5 2
 
 abbrev pub key_done : Members → MapDecl → Members
-key_done s d = type_membered d.key_type 4 (type_done s)
+key_done s d = attr_membered 4 1 d.key_type (type_done s)
 
 abbrev pub value_done : Members → MapDecl → Members
-value_done s d = type_membered d.value_type 6 (key_done s d)
+value_done s d = attr_membered 6 1 d.value_type (key_done s d)
 
 abbrev pub members_done : Members → MapDecl → Members
-members_done s d = count_membered d.max_entries (value_done s d)
+members_done s d = attr_membered 12 2 d.max_entries (value_done s d)
 
 abbrev pub members_bytes : Members → MapDecl → List ℕ
 members_bytes s d =
-    number_member s
-    ++ (type_member d.key_type (type_done s)
-    ++ (type_member d.value_type (key_done s d)
-    ++ count_member d.max_entries (value_done s d)))
+    value_member 2 s
+    ++ (attr_member 1 d.key_type (type_done s)
+    ++ (attr_member 1 d.value_type (key_done s d)
+    ++ attr_member 2 d.max_entries (value_done s d)))
 
 -- ---- the struct
 

@@ -1,21 +1,16 @@
 -- The types and the strings of a job's maps, from some map on.
-use Rattle.std.specs.Prelude.{List, [], ◌∷◌, ◌++◌, ℕ, ◌+◌, ◌*◌, length, take}
+use Rattle.std.specs.Prelude.{List, [], ◌∷◌, ◌++◌, ℕ, ◌+◌, ◌*◌, length}
 use Rattle.octets.specs.Octets.{le, cat}
 use Rattle.written.specs.Written.{written}
 use Rattle.ast.specs.Job.{Map}
 use Rattle.ast.specs.declared.MapDecl.{MapDecl}
-use Rattle.ast.specs.declared.CountAttr.{CountAttr}
-use Rattle.ast.specs.declared.CountAttr.TheVariants as count
-use Rattle.object.specs.Read.{maps_in}
+use Rattle.ast.specs.declared.NamedMap.{NamedMap}
+use Rattle.ast.specs.declared.Attr.{Attr}
 use Rattle.btf.specs.declared.BtfBuilder.{BtfBuilder}
 use Rattle.btf.specs.Btf.{BtfType, struct, var, info}
-use Rattle.btf.specs.Maps.{attributes}
+use Rattle.btf.specs.Maps.{attributes, attr_count}
 use Rattle.btf.specs.Builder.{words, bytes_at, past}
 use Rattle.members.specs.Members.{decl_room}
-
--- the first `count` maps of the tables
-abbrev pub the_maps : List ℕ → List MapDecl → List ℕ → List ℕ → ℕ → List Map
-the_maps text maps ats lens count = maps_in text (take count maps) (take count ats) (take count lens)
 
 -- ---- types
 
@@ -49,34 +44,33 @@ ints_built = record { at = 80; strings = 21; next_type_id = 6 }
 
 -- ---- the section `.maps`, which knows nothing of names
 
-abbrev pub rooms_of : List MapDecl → ℕ
+abbrev pub rooms_of : List NamedMap → ℕ
 rooms_of [] = 0
-rooms_of (d ∷ ds) = decl_room d + rooms_of ds
+rooms_of (m ∷ ms) = decl_room m.decl + rooms_of ms
 
--- how many types a number of entries has
-abbrev pub count_ids : CountAttr → ℕ
-count_ids count.Absent = 0
-count_ids (count.Present n) = 2
+-- how many types an attribute has, where a value has `n`
+abbrev pub attr_ids : {A : Type 0} → ℕ → Attr A → ℕ
+attr_ids n attr = n * attr_count attr
 
 -- the id of a map's struct, if the map's types begin at `next`; the variable's follows it
 abbrev pub struct_id : ℕ → MapDecl → ℕ
 struct_id next d =
     (attributes next (record { name = []; kind = d.map_type; key = d.key_type; value = d.value_type; entries = d.max_entries })).next
 
-abbrev pub entries_bytes : ℕ → ℕ → List MapDecl → List ℕ
+abbrev pub entries_bytes : ℕ → ℕ → List NamedMap → List ℕ
 entries_bytes next at [] = []
-entries_bytes next at (d ∷ ds) =
-    words ((struct_id next d + 1) ∷ at ∷ decl_room d ∷ []) ++ entries_bytes (struct_id next d + 2) (at + decl_room d) ds
+entries_bytes next at (m ∷ ms) =
+    words ((struct_id next m.decl + 1) ∷ at ∷ decl_room m.decl ∷ []) ++ entries_bytes (struct_id next m.decl + 2) (at + decl_room m.decl) ms
 
--- the section of `count` variables, whose name is at `name`
-abbrev pub section_bytes : ℕ → ℕ → List MapDecl → List ℕ
-section_bytes name count ds = words (name ∷ info 15 count ∷ rooms_of ds ∷ []) ++ entries_bytes 6 0 ds
+-- the section of the maps' variables, whose name is at `name`
+abbrev pub section_bytes : ℕ → List NamedMap → List ℕ
+section_bytes name ms = words (name ∷ info 15 (length ms) ∷ rooms_of ms ∷ []) ++ entries_bytes 6 0 ms
 
 -- ---- sizes and the header
 
 -- the bytes that a map's types and its entry take: three times its room, 64, and 24 more for a number of entries
 abbrev pub span_of : MapDecl → ℕ
-span_of d = 3 * decl_room d + 64 + 12 * count_ids d.max_entries
+span_of d = 3 * decl_room d + 64 + 12 * attr_ids 2 d.max_entries
 
 abbrev pub header_bytes : ℕ → ℕ → List ℕ
 header_bytes types strings =

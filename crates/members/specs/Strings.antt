@@ -3,23 +3,18 @@ use Rattle.std.specs.Prelude.{List, [], ◌∷◌, ◌++◌, ℕ}
 use Rattle.octets.specs.Octets.{ascii}
 use Rattle.written.specs.Written.{written}
 use Rattle.ast.specs.Job.{Map}
-use Rattle.ast.specs.declared.TypeAttr.{TypeAttr}
-use Rattle.ast.specs.declared.TypeAttr.TheVariants as type
-use Rattle.ast.specs.declared.CountAttr.{CountAttr}
-use Rattle.ast.specs.declared.CountAttr.TheVariants as count
+use Rattle.ast.specs.declared.Attr.{Attr}
+use Rattle.ast.specs.declared.«Type».{«Type» as MemberType}
+use Rattle.ast.specs.declared.Attr.TheVariants.{Absent, Present}
 
 -- the name of an attribute; nothing if it is absent
-abbrev pub type_name : TypeAttr → List ℕ → List ℕ
-type_name type.Absent s = []
-type_name (type.Present t) s = s ++ (0 ∷ [])
+abbrev pub attr_name : {A : Type 0} → Attr A → List ℕ → List ℕ
+attr_name Absent s = []
+attr_name (Present x) s = s ++ (0 ∷ [])
 
-abbrev pub count_name : CountAttr → List ℕ
-count_name count.Absent = []
-count_name (count.Present n) = ascii "max_entries" ++ (0 ∷ [])
-
-abbrev pub attr_names : TypeAttr → TypeAttr → CountAttr → List ℕ
+abbrev pub attr_names : Attr MemberType → Attr MemberType → Attr ℕ → List ℕ
 attr_names key value entries =
-    (ascii "type" ++ (0 ∷ [])) ++ (type_name key (ascii "key") ++ (type_name value (ascii "value") ++ count_name entries))
+    (ascii "type" ++ (0 ∷ [])) ++ (attr_name key (ascii "key") ++ (attr_name value (ascii "value") ++ attr_name entries (ascii "max_entries")))
 
 -- the names of a map's members, and its own
 abbrev pub map_strings : Map → List ℕ

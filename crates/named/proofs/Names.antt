@@ -1,6 +1,6 @@
 -- A written name has at most 64 bytes; and the front of lent memory that a name was written over.
-use mathlib.Core.Path.{◌≡◌}
-use mathlib.Core.List.{List}
+use mathlib.Core.Path.{◌≡◌, refl}
+use mathlib.Core.List.{List, [], ◌∷◌}
 use Prim.Native.Nat.{ℕ, ◌+◌, ◌-◌, ◌≤◌}
 use native.Mathlib.Omega.{arith}
 use lib.ListN.{length, take, drop}
@@ -21,3 +21,8 @@ pub over-front : (d t : List ℕ) (n : ℕ) → length t ≡ n → take (n - 0) 
 over-front d t n e =
     let z : n - 0 ≡ 0 + length t = omega arith in
     rw z (over_taken d 0 t (omega arith))
+
+-- an empty name is written as `_solnix_symbol`
+pub written_none : (l : List ℕ) → length l ≡ 0 → 14 ≡ length (written l)
+written_none [] h = refl
+written_none (x ∷ l) h = absurd (omega arith)

@@ -4,12 +4,26 @@
 
 ghost use Rattle.std.specs.Prelude.{◌≡◌, [], ◌∷◌, ◌++◌, ◌+◌, ◌≤◌, length};
 ghost use Rattle.octets.specs.Over.{over};
+ghost use Rattle.lines.specs.Bytes.{bytes};
 ghost use Rattle.written.specs.Written.{written};
 ghost use Rattle.object.specs.Read.{name_in};
 ghost use Rattle.object.specs.Kept.{Named};
 
 use ast::Name;
+use lines::Hex;
 use written::Unnamed;
+
+// The hexadecimal of a name.
+fn hex_of<'a>(text: &'a [u8], name: Name) -> Hex<'a>
+    requires { Named text.now name }
+    ensures { bytes result ≡ name_in text.now name }
+{
+    let from = name.at as usize;
+    let n = name.len as usize;
+    Hex {
+        chars: &text[from..from + 2 * n],
+    }
+}
 
 // The bytes of a name, over what is at `at`.
 pub fn put_name(out: &mut [u8], at: usize, text: &[u8], name: Name) -> usize
@@ -18,9 +32,9 @@ pub fn put_name(out: &mut [u8], at: usize, text: &[u8], name: Name) -> usize
     ensures out_after { out.new ≡ over out.old at (name_in text.now name) }
     ensures value { result ≡ at + name.len }
 {
-    let from = name.at as usize;
     let n = name.len as usize;
-    lines::put_unhex(&mut out[at..at + n], &text[from..from + 2 * n]);
+    let hex = hex_of(text, name);
+    hex.put_unhex(&mut out[at..at + n]);
     at + n
 }
 
@@ -42,9 +56,9 @@ pub fn written_size(text: &[u8], name: Name) -> usize
     ensures value { result ≡ length (written (name_in text.now name)) }
     ensures upper_bound { result ≤ 64 }
 {
-    let start = name.at as usize;
     let bytes = name.len as usize;
-    if utf8::is_ascii(&text[start..start + 2 * bytes]) {
+    let hex = hex_of(text, name);
+    if utf8::is_ascii(hex) {
         if bytes == 0 {
             return Unnamed::LEN;
         }

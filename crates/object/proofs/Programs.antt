@@ -9,6 +9,7 @@ use lib.Seq.{take-suc-set, take-set-le, drop-set-add}
 use Rattle.lines.specs.Lines.{Line, frame_bytes}
 use Rattle.lines.specs.Hex.{there}
 use Rattle.ast.specs.Job as job
+use Rattle.std.specs.Prelude.{Option}
 use Rattle.object.specs.declared.Slot.{Slot}
 use Rattle.object.specs.declared.Program.{Program}
 use Rattle.object.specs.Read.{slot_in, relocations_in, line_code, code_of, program_in, programs_in}
@@ -30,13 +31,13 @@ drop-next (x ∷ xs) zero a rest e = cc
 drop-next (x ∷ xs) (suc n) a rest e = drop-next xs n a rest e
 
 -- a slot after a part, and the part with it
-part_kept : (l : List Slot) (a k n : ℕ) (v : Slot) → a + k ≤ n → take k (drop a (set l n v)) ≡ take k (drop a l)
+part_kept : (l : List (Option Slot)) (a k n : ℕ) (v : Option Slot) → a + k ≤ n → take k (drop a (set l n v)) ≡ take k (drop a l)
 part_kept l a k n v h =
     let e : n ≡ a + (n - a) = omega arith in
     let g : k ≤ n - a = omega arith in
     rw (e, drop-set-add a l (n - a) v, take-set-le k (drop a l) (n - a) v g)
 
-pub part_more : (l : List Slot) (a k : ℕ) (v : Slot) → a + k < length l → take (suc k) (drop a (set l (a + k) v)) ≡ take k (drop a l) ++ (v ∷ [])
+pub part_more : (l : List (Option Slot)) (a k : ℕ) (v : Option Slot) → a + k < length l → take (suc k) (drop a (set l (a + k) v)) ≡ take k (drop a l) ++ (v ∷ [])
 part_more l a k v h =
     let g : k < length (drop a l) = rw length-drop (omega arith) in
     rw (drop-set-add a l k v) (take-suc-set (drop a l) k v g)
@@ -51,24 +52,24 @@ pub frames_snoc : (ls : List Line) (l : Line) → AllFrames ls → there (frame_
 frames_snoc [] l k e = (e, tt)
 frames_snoc (m ∷ ls) l k e = (k.0, frames_snoc ls l k.1 e)
 
-pub relocations_snoc : (text : List ℕ) (ss : List Slot) (s : Slot) → relocations_in text (ss ++ (s ∷ [])) ≡ relocations_in text ss ++ slot_in text s
+pub relocations_snoc : (text : List ℕ) (ss : List (Option Slot)) (s : Option Slot) → relocations_in text (ss ++ (s ∷ [])) ≡ relocations_in text ss ++ slot_in text s
 relocations_snoc text [] s = append-nil (slot_in text s)
 relocations_snoc text (r ∷ ss) s =
     rw (relocations_snoc text ss s) (sym (append_assoc (slot_in text r) (relocations_in text ss) (slot_in text s)))
 
 -- ---- programs
 
-pub programs_snoc : (text : List ℕ) (slots : List Slot) (ps : List Program) (p : Program)
+pub programs_snoc : (text : List ℕ) (slots : List (Option Slot)) (ps : List Program) (p : Program)
     → programs_in text slots (ps ++ (p ∷ [])) ≡ programs_in text slots ps ++ (program_in text slots p ∷ [])
 programs_snoc text slots [] p = refl
 programs_snoc text slots (q ∷ ps) p = ap (λ (x : List job.Program). program_in text slots q ∷ x) (programs_snoc text slots ps p)
 
-pub programs_length : (text : List ℕ) (slots : List Slot) (ps : List Program) → length (programs_in text slots ps) ≡ length ps
+pub programs_length : (text : List ℕ) (slots : List (Option Slot)) (ps : List Program) → length (programs_in text slots ps) ≡ length ps
 programs_length text slots [] = refl
 programs_length text slots (p ∷ ps) = ap suc (programs_length text slots ps)
 
 -- a slot after those of all programs changes none of them
-pub programs_kept : (text : List ℕ) (slots : List Slot) (n : ℕ) (v : Slot) (ps : List Program) → AllKept text n ps
+pub programs_kept : (text : List ℕ) (slots : List (Option Slot)) (n : ℕ) (v : Option Slot) (ps : List Program) → AllKept text n ps
     → programs_in text (set slots n v) ps ≡ programs_in text slots ps
 programs_kept text slots n v [] k = refl
 programs_kept text slots n v (p ∷ ps) k =

@@ -6,44 +6,42 @@ use native.Mathlib.Omega.{arith}
 use lib.ListN.{length, take, drop, get_or, length-append, length-drop}
 use lib.Seq.{length-take-le, get_or-drop}
 use Rattle.ast.specs.Job.{Map}
-use Rattle.object.specs.declared.Entry.{Entry}
-use Rattle.object.specs.declared.Entry.TheVariants.{Empty, Taken}
+use Rattle.std.specs.Prelude.{Option, Some, None}
 use Rattle.object.specs.declared.Slot.{Slot}
 use Rattle.object.specs.declared.Program.{Program}
 use Rattle.object.specs.declared.BpfObject.{BpfObject}
-use Rattle.object.specs.Tables.{empty_slot}
-use Rattle.object.specs.Read.{entry_in, slot_in, relocations_in, program_in, declared_maps}
-use Rattle.object.specs.Kept.{ResolvedEntry, ResolvedSlot, AllKept, Kept}
+use Rattle.object.specs.Read.{slot_in, relocations_in, program_in, declared_maps}
+use Rattle.object.specs.Kept.{ResolvedSlot, AllKept, Kept}
 
 -- every slot of a row is resolved
-abbrev pub AllResolved : List ℕ → List Map → List Slot → Type 0
+abbrev pub AllResolved : List ℕ → List Map → List (Option Slot) → Type 0
 AllResolved text ms [] = Unit
 AllResolved text ms (s ∷ ss) = ResolvedSlot text ms s × AllResolved text ms ss
 
 -- then each of them gives one relocation
-pub relocations_length : (text : List ℕ) (ms : List Map) (ss : List Slot) → AllResolved text ms ss → length (relocations_in text ss) ≡ length ss
+pub relocations_length : (text : List ℕ) (ms : List Map) (ss : List (Option Slot)) → AllResolved text ms ss → length (relocations_in text ss) ≡ length ss
 relocations_length text ms [] r = refl
 relocations_length text ms (s ∷ ss) r =
     omega (
       arith,
       length-append (slot_in text s) (relocations_in text ss),
-      entry_length s.entry s.place s.len s.map r.0,
+      slot_length s r.0,
       relocations_length text ms ss r.1,
     )
   where
-    entry_length : (e : Entry) (place len number : ℕ) → ResolvedEntry text ms e place len number → length (entry_in text e place len number) ≡ 1
-    entry_length Empty place len number r = absurd r
-    entry_length Taken place len number r = refl
+    slot_length : (s : Option Slot) → ResolvedSlot text ms s → length (slot_in text s) ≡ 1
+    slot_length None r = absurd r
+    slot_length (Some s) r = refl
 
 -- a part of a table whose slots are resolved one by one
-taken_resolved : (text : List ℕ) (ms : List Map) (l : List Slot) (k : ℕ) → k ≤ length l
-    → ((i : ℕ) → i < k → ResolvedSlot text ms (get_or l i empty_slot)) → AllResolved text ms (take k l)
+taken_resolved : (text : List ℕ) (ms : List Map) (l : List (Option Slot)) (k : ℕ) → k ≤ length l
+    → ((i : ℕ) → i < k → ResolvedSlot text ms (get_or l i None)) → AllResolved text ms (take k l)
 taken_resolved text ms l zero h f = tt
 taken_resolved text ms [] (suc k) h f = tt
 taken_resolved text ms (s ∷ l) (suc k) h f = (f 0 (omega arith), taken_resolved text ms l k (omega arith) (λ i g. f (suc i) (omega arith)))
 
 -- every program has as many relocations as it counts
-abbrev pub AllCounted : List ℕ → List Slot → List Program → Type 0
+abbrev pub AllCounted : List ℕ → List (Option Slot) → List Program → Type 0
 AllCounted text slots [] = Unit
 AllCounted text slots (p ∷ ps) = (length (program_in text slots p).relocations ≡ p.relocs) × AllCounted text slots ps
 
@@ -52,7 +50,7 @@ module _ (text : List ℕ) (o : BpfObject) (k : Kept text o) where
       → AllResolved text (declared_maps text o) (take p.relocs (drop p.first o.slots))
   part-resolved p h =
       taken_resolved text (declared_maps text o) (drop p.first o.slots) p.relocs (rw length-drop (omega (arith, k.sound)))
-      (λ i g. rw (get_or-drop p.first o.slots i empty_slot) (k.slots (p.first + i) (omega arith)))
+      (λ i g. rw (get_or-drop p.first o.slots i None) (k.slots (p.first + i) (omega arith)))
 
   counted : (ps : List Program) → AllKept text o.reloc_count ps → AllCounted text o.slots ps
   counted [] q = tt

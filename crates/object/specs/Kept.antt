@@ -1,5 +1,5 @@
 -- What is known of the tables of an accepted job: every place is in the text and has what the tables say.
-use Rattle.std.specs.Prelude.{◌≡◌, true, List, [], ◌∷◌, ℕ, ◌+◌, ◌*◌, ◌≤◌, ◌<◌, length, take, drop, get_or}
+use Rattle.std.specs.Prelude.{Option, Some, None, ◌≡◌, true, List, [], ◌∷◌, ℕ, ◌+◌, ◌*◌, ◌≤◌, ◌<◌, length, take, drop, get_or}
 use Rattle.std.proofs.Math.Option.{some}
 use Rattle.lines.specs.Lines.{Line, frame_bytes}
 use Rattle.lines.specs.Hex.{there, is_hex}
@@ -8,12 +8,11 @@ use Rattle.ast.specs.Job.{Map, last_map}
 use Rattle.ast.specs.declared.Name.{Name}
 use Rattle.object.specs.declared.License.{License}
 use Rattle.object.specs.declared.License.TheVariants.{Gpl, Text}
-use Rattle.object.specs.declared.Entry.{Entry}
-use Rattle.object.specs.declared.Entry.TheVariants.{Empty, Taken}
 use Rattle.object.specs.declared.Slot.{Slot}
 use Rattle.object.specs.declared.Program.{Program}
 use Rattle.object.specs.declared.BpfObject.{BpfObject}
-use Rattle.object.specs.Tables.{empty_slot, Sound}
+use Rattle.ast.specs.declared.NamedMap.{NamedMap}
+use Rattle.object.specs.Tables.{no_map, Sound}
 use Rattle.object.specs.Read.{bytes_at, name_in, code_of, body, declared_maps}
 
 -- a name is in the text, is hexadecimal and UTF-8, and has at most 64 bytes
@@ -22,6 +21,10 @@ pub record Named (text : List ℕ) (n : Name) : Type 0 where
   pub hex : is_hex (take (2 * n.len) (drop n.at text)) ≡ true
   pub good : is_text (name_in text n) ≡ true
   pub short : n.len ≤ 64
+
+-- each map's name is one
+abbrev pub MapsNamed : List ℕ → List NamedMap → Type 0
+MapsNamed text ms = (i : ℕ) → i < length ms → Named text (get_or ms i no_map).name
 
 abbrev pub LicenceNamed : List ℕ → License → Type 0
 LicenceNamed text Gpl = Unit
@@ -34,12 +37,9 @@ pub record Resolved (text : List ℕ) (ms : List Map) (place len number : ℕ) :
   pub last : last_map (bytes_at text (place + 16) len) ms ≡ some number
   pub short : len ≤ 64
 
-abbrev pub ResolvedEntry : List ℕ → List Map → Entry → ℕ → ℕ → ℕ → Type 0
-ResolvedEntry text ms Empty place len number = ⊥
-ResolvedEntry text ms Taken place len number = Resolved text ms place len number
-
-abbrev pub ResolvedSlot : List ℕ → List Map → Slot → Type 0
-ResolvedSlot text ms s = ResolvedEntry text ms s.entry s.place s.len s.map
+abbrev pub ResolvedSlot : List ℕ → List Map → Option Slot → Type 0
+ResolvedSlot text ms None = ⊥
+ResolvedSlot text ms (Some s) = Resolved text ms s.place s.len s.map
 
 -- lines that are hexadecimal
 abbrev pub AllFrames : List Line → Type 0
@@ -62,6 +62,6 @@ AllKept text n (p ∷ ps) = ProgramKept text n p × AllKept text n ps
 pub record Kept (text : List ℕ) (o : BpfObject) : Type 0 where
   pub sound : Sound o
   pub licence : LicenceNamed text o.license
-  pub maps : (i : ℕ) → i < o.map_count → Named text (record { at = get_or o.map_at i 0; len = get_or o.map_len i 0 })
+  pub maps : MapsNamed text (take o.map_count o.maps)
   pub programs : AllKept text o.reloc_count (take o.program_count o.programs)
-  pub slots : (i : ℕ) → i < o.reloc_count → ResolvedSlot text (declared_maps text o) (get_or o.slots i empty_slot)
+  pub slots : (i : ℕ) → i < o.reloc_count → ResolvedSlot text (declared_maps text o) (get_or o.slots i None)

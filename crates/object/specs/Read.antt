@@ -1,6 +1,7 @@
 -- The tables of the code, read as a job. Every name, every byte of code and every offset is a function of the text and a place, so that
 -- nothing that was read changes when the tables grow.
 use Rattle.std.proofs.Math.Option.{Option, none, some}
+use Rattle.std.specs.Prelude as slot
 use Rattle.std.specs.Prelude.{List, [], ◌∷◌, ◌++◌, ℕ, ◌+◌, ◌*◌, take, drop}
 use Rattle.octets.specs.Octets.{value, ascii}
 use Rattle.lines.specs.Lines.{Line, lines, frame_bytes}
@@ -9,11 +10,9 @@ use Rattle.frames.specs.Frames.{Frame, licence, map_decl, program, code, relocat
 use Rattle.ast.specs.Job.{Map, Relocation, Job}
 use Rattle.ast.specs.Job as job
 use Rattle.ast.specs.declared.Name.{Name}
-use Rattle.ast.specs.declared.MapDecl.{MapDecl}
+use Rattle.ast.specs.declared.NamedMap.{NamedMap}
 use Rattle.object.specs.declared.License.{License}
 use Rattle.object.specs.declared.License.TheVariants.{Gpl, Text}
-use Rattle.object.specs.declared.Entry.{Entry}
-use Rattle.object.specs.declared.Entry.TheVariants.{Empty, Taken}
 use Rattle.object.specs.declared.Slot.{Slot}
 use Rattle.object.specs.declared.Program.{Program}
 use Rattle.object.specs.declared.BpfObject.{BpfObject}
@@ -29,22 +28,19 @@ abbrev pub licence_in : List ℕ → License → List ℕ
 licence_in text Gpl = ascii "GPL"
 licence_in text (Text n) = name_in text n
 
-abbrev pub map_in : List ℕ → MapDecl → ℕ → ℕ → Map
-map_in text d at len =
+abbrev pub map_in : List ℕ → NamedMap → Map
+map_in text m =
     record {
-      name = bytes_at text at len;
-      kind = d.map_type;
-      key = d.key_type;
-      value = d.value_type;
-      entries = d.max_entries;
+      name = name_in text m.name;
+      kind = m.decl.map_type;
+      key = m.decl.key_type;
+      value = m.decl.value_type;
+      entries = m.decl.max_entries;
     }
 
--- declarations with their names beside them
-abbrev pub maps_in : List ℕ → List MapDecl → List ℕ → List ℕ → List Map
-maps_in text [] ats lens = []
-maps_in text (d ∷ ds) [] lens = []
-maps_in text (d ∷ ds) (a ∷ ats) [] = []
-maps_in text (d ∷ ds) (a ∷ ats) (l ∷ lens) = map_in text d a l ∷ maps_in text ds ats lens
+abbrev pub maps_in : List ℕ → List NamedMap → List Map
+maps_in text [] = []
+maps_in text (m ∷ ms) = map_in text m ∷ maps_in text ms
 
 -- the relocation whose offset, of 8 bytes, is at `place`, and after it the name of map `number`
 abbrev pub relocation_at : List ℕ → ℕ → ℕ → ℕ → Relocation
@@ -52,14 +48,11 @@ relocation_at text place len number =
     record { offset = value (bytes_at text place 8); map = bytes_at text (place + 16) len; number = number }
 
 -- a slot that is taken gives one relocation, an empty one none
-abbrev pub entry_in : List ℕ → Entry → ℕ → ℕ → ℕ → List Relocation
-entry_in text Empty place len number = []
-entry_in text Taken place len number = relocation_at text place len number ∷ []
+abbrev pub slot_in : List ℕ → slot.Option Slot → List Relocation
+slot_in text slot.None = []
+slot_in text (slot.Some s) = relocation_at text s.place s.len s.map ∷ []
 
-abbrev pub slot_in : List ℕ → Slot → List Relocation
-slot_in text s = entry_in text s.entry s.place s.len s.map
-
-abbrev pub relocations_in : List ℕ → List Slot → List Relocation
+abbrev pub relocations_in : List ℕ → List (slot.Option Slot) → List Relocation
 relocations_in text [] = []
 relocations_in text (s ∷ ss) = slot_in text s ++ relocations_in text ss
 
@@ -84,7 +77,7 @@ code_of (l ∷ ls) = line_code (frame_bytes l) ++ code_of ls
 abbrev pub body : List ℕ → ℕ → ℕ → List Line
 body text from n = take n (lines (drop from text))
 
-abbrev pub program_in : List ℕ → List Slot → Program → job.Program
+abbrev pub program_in : List ℕ → List (slot.Option Slot) → Program → job.Program
 program_in text slots p =
     record {
       section = name_in text p.section;
@@ -93,14 +86,12 @@ program_in text slots p =
       relocations = relocations_in text (take p.relocs (drop p.first slots));
     }
 
-abbrev pub programs_in : List ℕ → List Slot → List Program → List job.Program
+abbrev pub programs_in : List ℕ → List (slot.Option Slot) → List Program → List job.Program
 programs_in text slots [] = []
 programs_in text slots (p ∷ ps) = program_in text slots p ∷ programs_in text slots ps
 
 abbrev pub declared_maps : List ℕ → BpfObject → List Map
-declared_maps text o =
-    let n = o.map_count in
-    maps_in text (take n o.maps) (take n o.map_at) (take n o.map_len)
+declared_maps text o = maps_in text (take o.map_count o.maps)
 
 abbrev pub job_in : List ℕ → BpfObject → Job
 job_in text o =

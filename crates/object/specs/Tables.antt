@@ -1,32 +1,29 @@
 -- The tables of the code: as they are at the start, and after each step.
-use Rattle.std.specs.Prelude.{◌≡◌, cond, ◌+◌, ◌≤◌, length, replicate, set, ltb}
+use Rattle.std.specs.Prelude.{None, ◌≡◌, cond, ◌+◌, ◌≤◌, length, replicate, set, ltb, Result, Ok, Err}
 use Rattle.octets.specs.Told.{Told, gives, refuses}
 use Rattle.ast.specs.declared.Name.{Name}
 use Rattle.ast.specs.declared.MapDecl.{MapDecl}
+use Rattle.ast.specs.declared.NamedMap.{NamedMap}
 use Rattle.ast.specs.declared.MapType.TheVariants.{Hash}
-use Rattle.ast.specs.declared.TypeAttr.TheVariants as type
-use Rattle.ast.specs.declared.CountAttr.TheVariants as count
+use Rattle.ast.specs.declared.Attr.TheVariants.{Absent, Present}
 use Rattle.object.specs.declared.License.TheVariants.{Gpl, Text}
-use Rattle.object.specs.declared.Entry.TheVariants.{Empty}
-use Rattle.object.specs.declared.Slot.{Slot}
 use Rattle.object.specs.declared.Program.{Program}
 use Rattle.object.specs.declared.BpfObject.{BpfObject}
-use Rattle.object.specs.declared.Adding.{Adding}
-use Rattle.object.specs.declared.Adding.TheVariants.{Done, Full}
+use Rattle.object.specs.declared.Full.{Full}
 use Rattle.object.specs.declared.Added.{Added}
 
 abbrev pub no_name : Name
 no_name = record { at = 0; len = 0 }
 
-abbrev pub no_map : MapDecl
-no_map = record { map_type = Hash; key_type = type.Absent; value_type = type.Absent; max_entries = count.Absent }
+abbrev pub no_decl : MapDecl
+no_decl = record { map_type = Hash; key_type = Absent; value_type = Absent; max_entries = Absent }
+
+abbrev pub no_map : NamedMap
+no_map = record { decl = no_decl; name = no_name }
 
 abbrev pub no_program : Program
 no_program =
     record { section = no_name; symbol = no_name; from = 0; lines = 0; code_len = 0; first = 0; relocs = 0 }
-
-abbrev pub empty_slot : Slot
-empty_slot = record { entry = Empty; map = 0; place = 0; len = 0 }
 
 -- no licence frame, no map, no program, 256 empty slots
 abbrev pub empty_object : BpfObject
@@ -34,20 +31,16 @@ empty_object =
     record {
       license = Gpl;
       maps = replicate 64 no_map;
-      map_at = replicate 64 0;
-      map_len = replicate 64 0;
       map_count = 0;
       programs = replicate 32 no_program;
       program_count = 0;
-      slots = replicate 256 empty_slot;
+      slots = replicate 256 None;
       reloc_count = 0;
     }
 
 -- what every object keeps: its tables have their lengths, and its counts are within them
 pub record Sound (o : BpfObject) : Type 0 where
   pub maps : length o.maps ≡ 64
-  pub ats : length o.map_at ≡ 64
-  pub lens : length o.map_len ≡ 64
   pub programs : length o.programs ≡ 32
   pub slots : length o.slots ≡ 256
   pub few_maps : o.map_count ≤ 64
@@ -55,22 +48,20 @@ pub record Sound (o : BpfObject) : Type 0 where
   pub few_slots : o.reloc_count ≤ 256
 
 -- what a step says: a full table is refused 6
-abbrev pub adding_told : Adding → Told (Unit {0})
-adding_told Done = gives tt
-adding_told Full = refuses 6
+abbrev pub adding_told : Result (Unit {0}) Full → Told (Unit {0})
+adding_told (Ok u) = gives tt
+adding_told (Err e) = refuses 6
 
 abbrev pub done : BpfObject → Added
-done o = record { answer = Done; object = o }
+done o = record { answer = Ok tt; object = o }
 
 abbrev pub full : BpfObject → Added
-full o = record { answer = Full; object = o }
+full o = record { answer = Err (record {}); object = o }
 
 abbrev pub with_license : BpfObject → Name → Added
 with_license o n = done (record {
   license = Text n;
   maps = o.maps;
-  map_at = o.map_at;
-  map_len = o.map_len;
   map_count = o.map_count;
   programs = o.programs;
   program_count = o.program_count;
@@ -81,9 +72,7 @@ with_license o n = done (record {
 abbrev pub with_map : BpfObject → MapDecl → Name → BpfObject
 with_map o d n = record {
   license = o.license;
-  maps = set o.maps o.map_count d;
-  map_at = set o.map_at o.map_count n.at;
-  map_len = set o.map_len o.map_count n.len;
+  maps = set o.maps o.map_count (record { decl = d; name = n });
   map_count = o.map_count + 1;
   programs = o.programs;
   program_count = o.program_count;
@@ -98,8 +87,6 @@ abbrev pub with_program : BpfObject → Program → BpfObject
 with_program o p = record {
   license = o.license;
   maps = o.maps;
-  map_at = o.map_at;
-  map_len = o.map_len;
   map_count = o.map_count;
   programs = set o.programs o.program_count p;
   program_count = o.program_count + 1;

@@ -2,11 +2,11 @@
 // and stays as it is.
 #![tactic(auto)]
 
-ghost use Rattle.std.specs.Prelude.{◌≡◌, leb};
+ghost use Rattle.std.specs.Prelude.{◌≡◌, ◌≤◌, leb, length, take};
 ghost use Rattle.octets.specs.Told.{gives, told_if};
 ghost use Rattle.object.specs.Tables.{no_program, empty_object, Sound, adding_told, with_license, added_map, added_program};
 
-use ast::{CountAttr, MapDecl, MapType, Name, TypeAttr};
+use ast::{Attr, MapDecl, MapType, Name, NamedMap};
 
 #[derive(Clone, Copy)]
 pub enum License {
@@ -14,19 +14,10 @@ pub enum License {
     Text(Name),
 }
 
-// Whether a slot has a relocation.
-#[derive(Clone, Copy)]
-pub enum Entry {
-    Empty,
-    Taken,
-}
-
 // A relocation: the number of its map, the place of its offset in the text, and how many bytes the map's name has, which follows the
-// offset. The numbers are beside the state and not inside it, so that no byte of an empty slot is unset and 256 slots are cleared in one
-// piece. In an empty slot they mean nothing.
+// offset.
 #[derive(Clone, Copy)]
 pub struct Slot {
-    pub entry: Entry,
     pub map: u8,
     pub place: u16,
     pub len: u16,
@@ -63,31 +54,26 @@ impl Program {
     }
 }
 
-// The names of the maps are in two arrays of numbers, apart from the declarations, so that a lookup borrows them and copies nothing. A
-// count is before its table, and no table is next to the licence: then the compiler copies each table by itself.
+// A count is before its table, and no table is next to the licence: then the compiler copies each table by itself.
 #[derive(Clone, Copy)]
 pub struct BpfObject {
     pub license: License,
     pub map_count: usize,
-    pub maps: [MapDecl; BpfObject::MAPS],
-    pub map_at: [u16; BpfObject::MAPS],
-    pub map_len: [u16; BpfObject::MAPS],
+    pub maps: [NamedMap; BpfObject::MAPS],
     pub program_count: usize,
     pub programs: [Program; BpfObject::PROGRAMS],
     pub reloc_count: usize,
-    pub slots: [Slot; BpfObject::RELOCATIONS],
+    pub slots: [Option<Slot>; BpfObject::RELOCATIONS],
 }
 
+// A table that has no room left.
 #[derive(Clone, Copy)]
-pub enum Adding {
-    Done,
-    Full,
-}
+pub struct Full;
 
-// The object as it is after a step, with what the step did.
+// The object as it is after a step, and whether there was room for what the step adds.
 #[derive(Clone, Copy)]
 pub struct Added {
-    pub answer: Adding,
+    pub answer: Result<(), Full>,
     pub object: BpfObject,
 }
 
@@ -101,28 +87,22 @@ impl BpfObject {
     pub fn new() -> Self
         ensures { result ≡ empty_object }
     {
-        let map = MapDecl {
+        let decl = MapDecl {
             map_type: MapType::Hash,
-            key_type: TypeAttr::Absent,
-            value_type: TypeAttr::Absent,
-            max_entries: CountAttr::Absent,
+            key_type: Attr::Absent,
+            value_type: Attr::Absent,
+            max_entries: Attr::Absent,
         };
+        let name = Name { at: 0, len: 0 };
+        let map = NamedMap { decl, name };
         let program = Program::none();
-        let empty = Slot {
-            entry: Entry::Empty,
-            map: 0,
-            place: 0,
-            len: 0,
-        };
         BpfObject {
             license: License::Gpl,
             maps: [map; BpfObject::MAPS],
-            map_at: [0; BpfObject::MAPS],
-            map_len: [0; BpfObject::MAPS],
             map_count: 0,
             programs: [program; BpfObject::PROGRAMS],
             program_count: 0,
-            slots: [empty; BpfObject::RELOCATIONS],
+            slots: [None; BpfObject::RELOCATIONS],
             reloc_count: 0,
         }
     }
@@ -132,24 +112,10 @@ impl BpfObject {
         ensures value { result ≡ with_license self name }
         ensures answer_value { adding_told result.answer ≡ gives tt }
     {
-        let maps = self.maps;
-        let map_at = self.map_at;
-        let map_len = self.map_len;
-        let programs = self.programs;
-        let slots = self.slots;
+        self.license = License::Text(name);
         Added {
-            answer: Adding::Done,
-            object: BpfObject {
-                license: License::Text(name),
-                maps,
-                map_at,
-                map_len,
-                map_count: self.map_count,
-                programs,
-                program_count: self.program_count,
-                slots,
-                reloc_count: self.reloc_count,
-            },
+            answer: Ok(()),
+            object: self,
         }
     }
 
@@ -160,13 +126,11 @@ impl BpfObject {
         ensures answer_value { adding_told result.answer ≡ told_if 6 (leb 64 self.map_count) }
     {
         let n = self.map_count;
-        let mut answer = Adding::Full;
+        let mut answer = Err(Full);
         if n < BpfObject::MAPS {
-            self.maps[n] = decl;
-            self.map_at[n] = name.at;
-            self.map_len[n] = name.len;
+            self.maps[n] = NamedMap { decl, name };
             self.map_count = n + 1;
-            answer = Adding::Done;
+            answer = Ok(());
         }
         Added {
             answer,
@@ -181,15 +145,31 @@ impl BpfObject {
         ensures answer_value { adding_told result.answer ≡ told_if 6 (leb 32 self.program_count) }
     {
         let n = self.program_count;
-        let mut answer = Adding::Full;
+        let mut answer = Err(Full);
         if n < BpfObject::PROGRAMS {
             self.programs[n] = program;
             self.program_count = n + 1;
-            answer = Adding::Done;
+            answer = Ok(());
         }
         Added {
             answer,
             object: self,
         }
+    }
+
+    // The maps that are declared.
+    pub fn maps(&self) -> &[NamedMap]
+        requires { self.now.map_count ≤ length self.now.maps }
+        ensures { result.now ≡ take self.now.map_count self.now.maps }
+    {
+        &self.maps[..self.map_count]
+    }
+
+    // The programs that are closed.
+    pub fn programs(&self) -> &[Program]
+        requires { self.now.program_count ≤ length self.now.programs }
+        ensures { result.now ≡ take self.now.program_count self.now.programs }
+    {
+        &self.programs[..self.program_count]
     }
 }

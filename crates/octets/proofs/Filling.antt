@@ -1,13 +1,16 @@
 -- Lent memory that is filled from its front to its end, in pieces of any length: for writers of a row. A piece is written at a place, and
 -- the next one goes after it.
 use mathlib.Core.Path.{◌≡◌, refl, sym, ◌∙◌, ap}
-use mathlib.Core.List.{List, [], ◌++◌, append_assoc, append-nil}
+use mathlib.Core.List.{List, [], ◌∷◌, ◌++◌, append_assoc, append-nil}
 use Prim.Native.Nat.{ℕ, ◌+◌, ◌-◌, ◌≤◌}
 use native.Mathlib.Omega.{arith}
 use lib.ListN.{length, take, length-append}
 use lib.Seq.{take_all, drop-drop, length-take-le}
 use borrow.Rule.Slice.PartMut.{put_mid}
+use Rattle.octets.specs.Octets.{le}
+use Rattle.octets.specs.Fields.{fields}
 use Rattle.octets.specs.Over.{over}
+use Rattle.octets.proofs.Numbers.{le-length}
 use Rattle.octets.proofs.Laws.{over_taken, over-length, over-over}
 
 -- `out` is to become `whole`: its first `at` bytes are there, and `rest` is still to come
@@ -62,3 +65,14 @@ over-part d at e l t n q =
 pub over_two : (d : List ℕ) (at : ℕ) (s t d₁ d₂ : List ℕ) (mid : ℕ) → at ≤ length d → d₁ ≡ over d at s → mid ≡ at + length s → d₂ ≡ over d₁ mid t
     → d₂ ≡ over d at (s ++ t)
 over_two d at s t d₁ d₂ mid h p n q = q ∙ rw (p, n) (over-over d at s t h)
+
+-- ---- fields by their widths: those of `widths` and `values` are still to come
+
+pub field_room : {whole out widths values ws vs : List ℕ} {at w v : ℕ} → widths ≡ w ∷ ws → values ≡ v ∷ vs → Filling whole out at (fields widths values)
+    → at + w ≤ length out
+field_room {ws = ws} {vs} {w = w} {v} e g f = omega (arith, fill_room (le w v) (fields ws vs) (fill_as _ (rw (e, g)) f), le-length w v)
+
+pub field_on : {whole out out' widths values ws vs : List ℕ} {at w v : ℕ} → widths ≡ w ∷ ws → values ≡ v ∷ vs → Filling whole out at (fields widths values)
+    → out' ≡ over out at (le w v) → Filling whole out' (at + w) (fields ws vs)
+field_on {out' = out'} {ws = ws} {vs} {w = w} {v} e g f h =
+    fill_on (le w v) (fields ws vs) out' _ (fill_as _ (rw (e, g)) f) h (omega (arith, le-length w v))

@@ -1,6 +1,7 @@
 -- Laws for loops over bytes, and for writers of fields in parts of lent memory. A loop that writes keeps `whole ≡ take i out ++ rest`,
 -- where `rest` is what is still to come by its definition. A loop that reads keeps `result ≡ f state (drop i s)`.
 use mathlib.Core.Path.{◌≡◌, refl, sym, ◌∙◌, ap}
+use mathlib.Core.Logic.{◌⊎◌, inl, inr}
 use mathlib.Core.List.{List, [], ◌∷◌, ◌++◌, append_assoc, append-nil}
 use Prim.Native.Nat.{ℕ, ◌+◌, ◌-◌, ◌≤◌, ◌<◌}
 use native.Mathlib.Numerals.{add-one}
@@ -8,9 +9,9 @@ use native.Mathlib.Nat.{add_assoc}
 use native.Mathlib.Omega.{arith}
 use lib.ListN.{length, take, drop, get_or, set, length-append, length-take, length-drop, drop_of_length-le}
 use lib.Seq.{take-suc-set, drop-cons, take_all, append_snoc, drop_at, take_at, drop-drop, length-take-le}
-use lib.Dec.{T, leb, eqb, leb→le}
+use lib.Dec.{eqb}
 use mathlib.Core.Bool.{Bool, true, false, ◌&&◌}
-use borrow.Author.Tests.{leb-true, leb-false, eqb-true, eqb-false, eq-eqb, ne_eqb}
+use borrow.Author.Tests.{eqb-true, eqb-false, eq-eqb, ne_eqb}
 use borrow.Rule.Slice.PartMut.{put_mid, mid_len}
 use Rattle.octets.specs.Octets.{le, equal}
 use Rattle.octets.proofs.Numbers.{le-length}
@@ -43,19 +44,21 @@ pub record Run (d : List ℕ) (n : ℕ) (w s : List ℕ) (a : ℕ) : Type 0 wher
 pub start : {n : ℕ} (d : List ℕ) → length d ≡ n → Run d n d [] 0
 start d e = record { long = e; far = refl; is = refl }
 
--- what `put_le` says of the part, said of the whole
-pub field : {d w s l : List ℕ} {n a : ℕ} (k v : ℕ) → Run d n w s a → T (leb (a + k) n) → l ≡ le (length (take k (drop a w))) v
-    → Run d n (put_mid a k w l) (s ++ le k v) (a + k)
-field {d} {w} {s} {l} {n} {a} k v r h e =
-    let h' : a + k ≤ n = leb→le (a + k) n h in
-    let dropped : drop a w ≡ drop a d = rw (r.is, drop_at s (drop a d) a r.far) in
+-- one more part of a run: what a callee left in `&mut out[a..e]` is `t`
+pub part : {d w s l : List ℕ} {n a : ℕ} (e : ℕ) (t : List ℕ) → Run d n w s a → l ≡ t → a + length t ≡ e → Run d n (put_mid a (e - a) w l) (s ++ t) e
+part {d} {w} {s} {l} {n} {a} e t r q h =
     let taken : take a w ≡ s = rw (r.is, take_at s (drop a d) a r.far) in
-    let part : length (take k (drop a w)) ≡ k = rw dropped (length-take-le k (drop a d) (rw length-drop (omega (arith, r.long)))) in
+    let dropped : drop a w ≡ drop a d = rw (r.is, drop_at s (drop a d) a r.far) in
+    let k : a + (e - a) ≡ e = omega arith in
     record {
       long = r.long;
-      far = rw (length-append, le-length) (omega (arith, r.far));
-      is = rw (taken, dropped, drop-drop, e, part, append_assoc);
+      far = rw (length-append, r.far) h;
+      is = rw (q, taken, dropped, drop-drop, k, append_assoc);
     }
+
+pub part-long : {d w s : List ℕ} {n a : ℕ} (e : ℕ) → Run d n w s a → a ≤ e → e ≤ n → length (take (e - a) (drop a w)) ≡ e - a
+part-long {d} {w} {s} {n} {a} e r g h =
+    rw (r.is, drop_at s (drop a d) a r.far) (length-take-le (e - a) (drop a d) (rw length-drop (omega (arith, r.long))))
 
 pub done : {d w s : List ℕ} {n : ℕ} → Run d n w s n → w ≡ s
 done {d} {w} {s} {n} r = r.is ∙ rw (drop_of_length-le d {i = n} (omega (arith, r.long)), append-nil)
@@ -86,18 +89,6 @@ over-over d at s t h =
     )
     (simp (append_assoc, add_assoc))
 
--- one more piece of a run, whatever it is
-pub piece : {d w w' s : List ℕ} {n a : ℕ} (t : List ℕ) → Run d n w s a → w' ≡ over w a t → Run d n w' (s ++ t) (a + length t)
-unfolding over
-piece {d} {w} {w'} {s} {n} {a} t r e =
-    let taken : take a w ≡ s = rw (r.is, take_at s (drop a d) a r.far) in
-    let dropped : drop a w ≡ drop a d = rw (r.is, drop_at s (drop a d) a r.far) in
-    record {
-      long = r.long;
-      far = rw (length-append, r.far);
-      is = e ∙ rw (taken, ← drop-drop (length t) a w, dropped, drop-drop, append_assoc);
-    }
-
 pub over_taken : (d : List ℕ) (at : ℕ) (t : List ℕ) → at ≤ length d → take (at + length t) (over d at t) ≡ take at d ++ t
 unfolding over
 over_taken d at t h =
@@ -110,41 +101,16 @@ over-length d at t h = simp (length-append, length-take, length-drop) (omega ari
 
 -- ---- fields by their widths
 
-pub total_on : (ws : List ℕ) (i : ℕ) → i < length ws → total (drop i ws) ≡ get_or ws i 0 + total (drop (i + 1) ws)
-total_on ws i h = ap total (read_on ws i h)
+pub fields_length : (ws vs : List ℕ) → length ws ≡ length vs → length (fields ws vs) ≡ total ws
+fields_length [] vs e = refl
+fields_length (w ∷ ws) [] e = absurd (omega arith)
+fields_length (w ∷ ws) (v ∷ vs) e = rw (length-append, le-length, fields_length ws vs (omega arith))
 
-pub field_on : (whole out ws vs : List ℕ) (at i : ℕ) → at ≤ length out → i < length ws → i < length vs
-    → whole ≡ take at out ++ fields (drop i ws) (drop i vs)
-    → whole ≡ take (at + get_or ws i 0) (over out at (le (get_or ws i 0) (get_or vs i 0))) ++ fields (drop (i + 1) ws) (drop (i + 1) vs)
-field_on whole out ws vs at i p h g e =
-    let t = over_taken out at (le (get_or ws i 0) (get_or vs i 0)) p in
-    let n = le-length (get_or ws i 0) (get_or vs i 0) in
-    let e' = rw (read_on ws i h, read_on vs i g) at e in
-    e' ∙ sym (rw (rw n at t, append_assoc))
-
--- one more part of a run: what a callee left in `&mut out[a..e]` is `t`
-pub part : {d w s l : List ℕ} {n a : ℕ} (e : ℕ) (t : List ℕ) → Run d n w s a → l ≡ t → a + length t ≡ e → Run d n (put_mid a (e - a) w l) (s ++ t) e
-part {d} {w} {s} {l} {n} {a} e t r q h =
-    let taken : take a w ≡ s = rw (r.is, take_at s (drop a d) a r.far) in
-    let dropped : drop a w ≡ drop a d = rw (r.is, drop_at s (drop a d) a r.far) in
-    let k : a + (e - a) ≡ e = omega arith in
-    record {
-      long = r.long;
-      far = rw (length-append, r.far) h;
-      is = rw (q, taken, dropped, drop-drop, k, append_assoc);
-    }
-
-pub part-long : {d w s : List ℕ} {n a : ℕ} (e : ℕ) → Run d n w s a → a ≤ e → e ≤ n → length (take (e - a) (drop a w)) ≡ e - a
-part-long {d} {w} {s} {n} {a} e r g h =
-    rw (r.is, drop_at s (drop a d) a r.far) (length-take-le (e - a) (drop a d) (rw length-drop (omega (arith, r.long))))
-
--- `write_on` for a whole part: what a callee left in `&mut out[at..e]` is `t`
-pub part_on : {whole rest l : List ℕ} (out : List ℕ) (at e : ℕ) (t more : List ℕ) → at ≤ length out → l ≡ t → at + length t ≡ e
-    → whole ≡ take at out ++ rest → rest ≡ t ++ more → whole ≡ take e (put_mid at (e - at) out l) ++ more
-part_on out at e t more h q n w r =
-    let f : length (take at out ++ t) ≡ e = rw (length-append, length-take-le at out h) n in
-    w ∙ ap (λ (x : List ℕ). take at out ++ x) r
-    ∙ sym (rw (q, ← append_assoc (take at out) t (drop (e - at) (drop at out)), take_at (take at out ++ t) (drop (e - at) (drop at out)) e f, append_assoc))
+-- no width or no number is left
+pub fields_done : (ws vs : List ℕ) → (ws ≡ []) ⊎ (vs ≡ []) → fields ws vs ≡ []
+fields_done [] vs e = refl
+fields_done (w ∷ ws) vs (inl e) = cc
+fields_done (w ∷ ws) vs (inr e) = rw e
 
 -- ---- equal strings
 
@@ -169,17 +135,3 @@ equal_on a b i h g = rw (read_on a i h, read_on b i g)
 
 pub equal_differ : (a b : List ℕ) (i : ℕ) → i < length a → i < length b → (get_or a i 0 ≡ get_or b i 0 → ⊥) → equal (drop i a) (drop i b) ≡ false
 equal_differ a b i h g d = equal_on a b i h g ∙ simp (ne_eqb (get_or a i 0) (get_or b i 0) d)
-
-pub equal_next : (a b : List ℕ) (i : ℕ) → i < length a → i < length b → get_or a i 0 ≡ get_or b i 0
-    → equal (drop i a) (drop i b) ≡ equal (drop (i + 1) a) (drop (i + 1) b)
-equal_next a b i h g e = equal_on a b i h g ∙ simp (eq-eqb (get_or a i 0) (get_or b i 0) e)
-
-pub equal-short : (a b : List ℕ) (i : ℕ) → i < length a → length b ≤ i → equal (drop i a) (drop i b) ≡ false
-equal-short a b i h g = rw (read_on a i h, read_done b i g)
-
-pub equal_end : (a b : List ℕ) (i : ℕ) → length a ≤ i → equal (drop i a) (drop i b) ≡ leb (length b) i
-equal_end a b i h = go (leb (length b) i) refl
-  where
-    go : (t : Bool) → leb (length b) i ≡ t → equal (drop i a) (drop i b) ≡ t
-    go true e = rw (read_done a i h, read_done b i (leb-true (length b) i e))
-    go false e = rw (read_done a i h, read_on b i (leb-false (length b) i e))

@@ -6,10 +6,8 @@ use Rattle.ast.specs.Job.{Map}
 use Rattle.ast.specs.Numbers.{map_type_numbered}
 use Rattle.ast.specs.declared.«Type».{«Type» as MemberType}
 use Rattle.ast.specs.declared.«Type».TheVariants.{U32, U64, I32, I64}
-use Rattle.ast.specs.declared.TypeAttr.{TypeAttr}
-use Rattle.ast.specs.declared.CountAttr.{CountAttr}
-use Rattle.ast.specs.declared.TypeAttr.TheVariants as type
-use Rattle.ast.specs.declared.CountAttr.TheVariants as count
+use Rattle.ast.specs.declared.Attr.{Attr}
+use Rattle.ast.specs.declared.Attr.TheVariants.{Absent, Present}
 use Rattle.reading.specs.Steps.{◌>>=◌, ◌guards◌, field, keep, numbered, only, part, short, text_at}
 use Rattle.reading.specs.Sections.{Named, is_plain}
 
@@ -117,15 +115,10 @@ abbrev pub member_named : List ℕ → List NamedMember → List NamedMember
 member_named s ms = keep (λ m. equal m.name s) ms
 
 -- a member that is not there is absent, and one that is there twice fails
-abbrev pub type_attr : List BtfType → List NamedMember → Option TypeAttr
-type_attr b [] = some type.Absent
-type_attr b (m ∷ []) = member_type_of b m.type_id >>= λ t. some (type.Present t)
-type_attr b (m ∷ n ∷ ms) = none
-
-abbrev pub count_attr : List BtfType → List NamedMember → Option CountAttr
-count_attr b [] = some count.Absent
-count_attr b (m ∷ []) = number_of b m.type_id >>= λ n. some (count.Present n)
-count_attr b (m ∷ n ∷ ms) = none
+abbrev pub attr_of : {A : Type 0} → (ℕ → Option A) → List NamedMember → Option (Attr A)
+attr_of value [] = some Absent
+attr_of value (m ∷ []) = value m.type_id >>= λ x. some (Present x)
+attr_of value (m ∷ n ∷ ms) = none
 
 -- a map of L6, and its place in `.maps`
 pub record Mapped : Type 0 where
@@ -139,9 +132,9 @@ map_of b offset name members =
     only (member_named (ascii "type") ms) >>= λ m.
     number_of b m.type_id >>= λ n.
     map_type_numbered n >>= λ kind.
-    type_attr b (member_named (ascii "key") ms) >>= λ key.
-    type_attr b (member_named (ascii "value") ms) >>= λ val.
-    count_attr b (member_named (ascii "max_entries") ms) >>= λ entries.
+    attr_of (member_type_of b) (member_named (ascii "key") ms) >>= λ key.
+    attr_of (member_type_of b) (member_named (ascii "value") ms) >>= λ val.
+    attr_of (number_of b) (member_named (ascii "max_entries") ms) >>= λ entries.
     some (record { map = record { name = s; kind = kind; key = key; value = val; entries = entries }; offset = offset })
 
 abbrev pub var_of : List BtfType → Var → Option Mapped

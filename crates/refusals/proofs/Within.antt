@@ -17,7 +17,7 @@ use Rattle.octets.proofs.Tests.{or_false_both}
 use Rattle.utf8.specs.Utf8.{has_zero, is_text}
 use Rattle.written.proofs.Names.{Clean}
 use Rattle.ast.specs.Job.{Map, Relocation, Program, Job, last_map}
-use Rattle.ast.specs.declared.CountAttr.TheVariants as count
+use Rattle.ast.specs.declared.Attr.TheVariants.{Present}
 use Rattle.lines.specs.Lines.{Line, lines, frame_bytes}
 use Rattle.frames.specs.Frames.{Frame, licence, map_decl, program, code, relocation, frame_of}
 use Rattle.refusals.specs.Checked.{Stage, empty, Reason, first, long, reasons, on_last, with_code, with_relocation, Step, went, stopped, resolved, added, take_frame, take_bytes, take_line, Checked, accepted, faulty, take_lines, checked}
@@ -33,7 +33,7 @@ pub record Name (s : List ℕ) : Type 0 where
 
 pub record MapWithin (m : Map) : Type 0 where
   pub name : Name m.name
-  pub entries : (n : ℕ) → m.entries ≡ count.Present n → n < 2 ^ 32
+  pub entries : (n : ℕ) → m.entries ≡ Present n → n < 2 ^ 32
 
 pub record RelocationWithin (ms : List Map) (r : Relocation) : Type 0 where
   pub offset : r.offset < 2 ^ 64

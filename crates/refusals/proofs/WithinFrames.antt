@@ -16,10 +16,10 @@ use Rattle.octets.proofs.Tests.{and_true_both}
 use Rattle.ast.specs.Numbers.{map_type_numbered, member_type_numbered}
 use Rattle.ast.specs.declared.«Type».{«Type» as MemberType}
 use Rattle.ast.specs.declared.MapType.{MapType}
-use Rattle.ast.specs.declared.CountAttr.{CountAttr}
-use Rattle.ast.specs.declared.CountAttr.TheVariants as count
+use Rattle.ast.specs.declared.Attr.{Attr}
+use Rattle.ast.specs.declared.Attr.TheVariants.{Absent, Present}
 use Rattle.lines.specs.Lines.{Line, before, lines, digit, pair, unhex, frame_bytes}
-use Rattle.frames.specs.Frames.{Frame, licence, map_decl, program, code, relocation, TypeRead, CountRead, bit, type_if, count_if, map_attrs, map_frame, program_frame, relocation_frame, instruction_frame, frame_of}
+use Rattle.frames.specs.Frames.{Frame, licence, map_decl, program, code, relocation, Read, bit, take_type, take_count, attr_if, map_attrs, map_frame, program_frame, relocation_frame, instruction_frame, frame_of}
 
 -- what holds of a result, if there is one
 abbrev pub Holds {ℓ} : {A : Type ℓ} → (A → Type 0) → Option A → Type 0
@@ -98,13 +98,13 @@ lines-total (c ∷ cs) = go (eqb c 10) (lines-total cs)
 -- ---- frames
 
 -- a count that is present fits its four bytes
-abbrev FitCount : CountAttr → Type 0
-FitCount e = (n : ℕ) → e ≡ count.Present n → n < 2 ^ 32
+abbrev FitCount : Attr ℕ → Type 0
+FitCount e = (n : ℕ) → e ≡ Present n → n < 2 ^ 32
 
-absent_fits : FitCount count.Absent
+absent_fits : FitCount Absent
 absent_fits n e = let z : ◌≡◌ {A = ℕ} 0 1 = cc in absurd (omega arith)
 
-present_fits : (k : ℕ) → k < 2 ^ 32 → FitCount (count.Present k)
+present_fits : (k : ℕ) → k < 2 ^ 32 → FitCount (Present k)
 present_fits k h n e = let q : k ≡ n = cc in omega arith
 
 -- a frame of a line of `n` characters
@@ -115,29 +115,29 @@ FitFrame n (program section symbol) = Bytes section × Bytes symbol
 FitFrame n (code bytes) = LineBytes n bytes
 FitFrame n (relocation offset name) = (offset < 2 ^ 64) × Bytes name
 
-abbrev TypeRest : TypeRead → Type 0
+abbrev TypeRest : Read MemberType → Type 0
 TypeRest r = Bytes r.rest
 
-type_rest : (b : Bool) (bs : List ℕ) → Bytes bs → Holds TypeRest (type_if b bs)
+type_rest : (b : Bool) (bs : List ℕ) → Bytes bs → Holds TypeRest (attr_if take_type b bs)
 type_rest false bs a = a
 type_rest true [] a = tt
 type_rest true (b ∷ bs) a = then_holds (λ (t : MemberType). Unit {0}) TypeRest (member_type_numbered b) _ (any (member_type_numbered b)) (λ t h. a.1)
 
-record FitCountRead (r : CountRead) : Type 0 where
+record FitCountRead (r : Read ℕ) : Type 0 where
   attr : FitCount r.attr
   rest : Bytes r.rest
 
-count_rest : (b : Bool) (bs : List ℕ) → Bytes bs → Holds FitCountRead (count_if b bs)
+count_rest : (b : Bool) (bs : List ℕ) → Bytes bs → Holds FitCountRead (attr_if take_count b bs)
 count_rest false bs a = record { attr = absent_fits; rest = a }
 count_rest true bs a =
-    cond_holds FitCountRead (leb 4 (length bs)) (some (record { attr = count.Present (value (take 4 bs)); rest = drop 4 bs })) none
+    cond_holds FitCountRead (leb 4 (length bs)) (some (record { attr = Present (value (take 4 bs)); rest = drop 4 bs })) none
     (record { attr = present_fits (value (take 4 bs)) (front_fits 4 bs a); rest = all_drop Byte 4 bs a }) tt
 
 attrs_fit : (n : ℕ) (t : MapType) (p : ℕ) (bs : List ℕ) → Bytes bs → Holds (FitFrame n) (map_attrs t p bs)
 attrs_fit n t p bs a =
-    then_holds TypeRest (FitFrame n) (type_if (bit 1 p) bs) _ (type_rest (bit 1 p) bs a) λ k h.
-    then_holds TypeRest (FitFrame n) (type_if (bit 2 p) k.rest) _ (type_rest (bit 2 p) k.rest h) λ v h.
-    then_holds FitCountRead (FitFrame n) (count_if (bit 4 p) v.rest) _ (count_rest (bit 4 p) v.rest h) λ c h. (h.attr, h.rest)
+    then_holds TypeRest (FitFrame n) (attr_if take_type (bit 1 p) bs) _ (type_rest (bit 1 p) bs a) λ k h.
+    then_holds TypeRest (FitFrame n) (attr_if take_type (bit 2 p) k.rest) _ (type_rest (bit 2 p) k.rest h) λ v h.
+    then_holds FitCountRead (FitFrame n) (attr_if take_count (bit 4 p) v.rest) _ (count_rest (bit 4 p) v.rest h) λ c h. (h.attr, h.rest)
 
 map_fit : (n : ℕ) (bs : List ℕ) → Bytes bs → Holds (FitFrame n) (map_frame bs)
 map_fit n [] a = tt

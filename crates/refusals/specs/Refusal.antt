@@ -1,5 +1,5 @@
 -- The code's refusals in the words of document 01's table: the number, the line and the length needed of each case.
-use Rattle.std.specs.Prelude.{ℕ}
+use Rattle.std.specs.Prelude.{List, ◌++◌, ℕ, codes, decimal}
 use Rattle.refusals.specs.declared.Refusal.{Refusal}
 use Rattle.refusals.specs.declared.Refusal.TheVariants.{TooLong, BadLine, BadFrame, Misplaced, BadText, OverLimit, UnknownMap, NoRoom}
 
@@ -32,3 +32,7 @@ needed_of (BadText l) = 0
 needed_of (OverLimit l) = 0
 needed_of (UnknownMap l) = 0
 needed_of (NoRoom n) = n
+
+-- what is printed for a refusal
+abbrev pub text_of : Refusal → List ℕ
+text_of r = codes "refused " ++ decimal (number_of r) ++ codes " line " ++ decimal (line_of r)

@@ -1,8 +1,10 @@
-// Why a job is refused: the table of refusals, and the number, the line and the length of each case.
+// Why a job is refused: the table of refusals, the number, the line and the length of each case, and the line that is printed for it.
 #![tactic(auto)]
 
 ghost use Rattle.std.specs.Prelude.{◌≡◌, ◌-◌, length};
 ghost use Rattle.refusals.specs.Refusal.{number_of, line_of, needed_of};
+
+use std::fmt;
 
 // Each case but the first and the last holds the number of its line; the last holds the length needed.
 #[derive(Clone, Copy)]
@@ -64,5 +66,19 @@ impl Refusal {
             Refusal::UnknownMap(_) => 0,
             Refusal::NoRoom(n) => n,
         }
+    }
+}
+
+// The one line that a refused job gets.
+impl fmt::Display for Refusal {
+    ghost use Rattle.std.specs.Prelude.{Some};
+    ghost use Rattle.refusals.specs.Refusal.{text_of};
+
+    ghost output = { λ r. Some (text_of r) };
+
+    fn fmt<W: fmt::Write>(&self, f: &mut fmt::Formatter<W>) -> fmt::Result {
+        let number = self.number();
+        let line = self.line();
+        write!(f, "refused {number} line {line}")
     }
 }

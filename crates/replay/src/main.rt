@@ -4,11 +4,37 @@
 // four bytes (length of the job, number of the refusal or 0, its line, length of the object), then the job, then the object.
 #![tactic(auto)]
 
-use maker::Making;
 use refusals::Refusal;
 use std::fs::File;
 use std::io;
 use std::io::Read;
+
+// What the list says of a job: it gets an object, or it is refused with a number, at a line.
+#[derive(Clone, Copy, PartialEq, Eq)]
+enum Stored {
+    Object,
+    Refused { number: u64, line: u64 },
+}
+
+impl Stored {
+    // A record's second and third number: 0 in place of a refusal's number is an object.
+    fn read(number: u64, line: u64) -> Stored {
+        if number == 0 {
+            Stored::Object
+        } else {
+            Stored::Refused { number, line }
+        }
+    }
+}
+
+impl From<Refusal> for Stored {
+    fn from(refusal: Refusal) -> Stored {
+        Stored::Refused {
+            number: u64::from(refusal.number()),
+            line: refusal.line() as u64,
+        }
+    }
+}
 
 // What one record showed.
 #[derive(Clone, Copy)]
@@ -23,122 +49,65 @@ enum Shown {
 // Whether lent bytes are as they were: every byte is 90 before a job is answered.
 fn untouched(out: &[u8]) -> bool {
     let before = [90u8; 65536];
-    let n = out.len();
-    if 65536 < n {
-        return false;
-    }
-    octets::same(out, &before[0..n])
+    before
+        .get(0..out.len())
+        .is_some_and(|same| octets::same(out, same))
 }
 
 // Whether `out` is the object and then the bytes that were there.
 fn holds(out: &[u8], object: &[u8]) -> bool {
-    let n = object.len();
-    let all = out.len();
-    if all < n {
-        return false;
-    }
-    if octets::same(&out[0..n], object) {
-        return untouched(&out[n..all]);
-    }
-    false
+    out.split_at_checked(object.len()).is_some_and(|(front, rest)| octets::same(front, object)
+        && untouched(rest))
 }
 
 // Whether the job gets exactly the object into `out`.
 fn makes(job: &[u8], out: &mut [u8], object: &[u8]) -> bool {
-    let made = maker::make(job, out);
-    let Making::Made(len) = made else {
-        return false;
-    };
-    if len == object.len() {
-        return holds(out, object);
+    match maker::make(job, out) {
+        Ok(len) => len == object.len() && holds(out, object),
+        Err(_) => false,
     }
-    false
 }
 
 // Whether the job is refused for lack of room, with the length `n` that it needs, and `out` is left as it was.
 fn wants(job: &[u8], out: &mut [u8], n: usize) -> bool {
-    let made = maker::make(job, out);
-    let Making::Refused(r) = made else {
-        return false;
-    };
-    if is_refusal(r, 8, 0) {
-        if r.needed() == n {
-            return untouched(out);
-        }
+    match maker::make(job, out) {
+        Err(Refusal::NoRoom(needed)) => needed == n && untouched(out),
+        _ => false,
     }
-    false
-}
-
-// Whether a refusal has this number and this line.
-fn is_refusal(r: Refusal, number: u64, line: u64) -> bool {
-    let n = r.number() as u64;
-    let l = r.line() as u64;
-    n == number && l == line
 }
 
 // Whether the job gets its object with room for 65,536 bytes and with just what it needs, and is refused 8 with one byte less and with
 // none.
 fn makes_in_each_room(job: &[u8], object: &[u8]) -> bool {
     let n = object.len();
-    if n < 1 {
-        return false;
-    }
-    if 65536 < n {
+    if n < 1 || 65536 < n {
         return false;
     }
     let mut out = [90u8; 65536];
-    if !makes(job, &mut out, object) {
-        return false;
-    }
     let mut just = [90u8; 65536];
-    if !makes(job, &mut just[0..n], object) {
-        return false;
-    }
-    let less = n - 1;
-    if 65536 < less {
-        return false;
-    }
     let mut short = [90u8; 65536];
-    if !wants(job, &mut short[0..less], n) {
-        return false;
-    }
-    wants(job, &mut short[0..0], n)
+    makes(job, &mut out, object)
+        && makes(job, &mut just[0..n], object)
+        && wants(job, &mut short[0..n - 1], n)
+        && wants(job, &mut short[0..0], n)
 }
 
 // Whether the job is refused as stored, and the output is left as it was.
-fn refuses(job: &[u8], number: u64, line: u64) -> bool {
+fn refuses(job: &[u8], stored: Stored) -> bool {
     let mut out = [90u8; 65536];
-    let made = maker::make(job, &mut out);
-    let Making::Refused(r) = made else {
-        return false;
-    };
-    if is_refusal(r, number, line) {
-        return untouched(&out);
+    match maker::make(job, &mut out) {
+        Ok(_) => false,
+        Err(refusal) => Stored::from(refusal) == stored && untouched(&out),
     }
-    false
 }
 
-// The answer to a job, compared with the stored one: number 0 is an accepted job.
-fn answered(job: &[u8], object: &[u8], number: u64, line: u64) -> Shown {
-    if number == 0 {
-        if makes_in_each_room(job, object) {
-            return Shown::Accepted;
-        }
-        return Shown::Differs;
+// The answer to a job, compared with the stored one.
+fn answered(job: &[u8], object: &[u8], stored: Stored) -> Shown {
+    match stored {
+        Stored::Object if makes_in_each_room(job, object) => Shown::Accepted,
+        Stored::Refused { .. } if refuses(job, stored) => Shown::Refused,
+        _ => Shown::Differs,
     }
-    if refuses(job, number, line) {
-        return Shown::Refused;
-    }
-    Shown::Differs
-}
-
-// The answer to a record's job, which ends at `middle` and is followed by the object.
-fn answered_record(record: &[u8], middle: usize, number: u64, line: u64) -> Shown {
-    let all = record.len();
-    if all < middle {
-        return Shown::Broken;
-    }
-    answered(&record[0..middle], &record[middle..all], number, line)
 }
 
 // The job of `n` bytes and the object of `m` bytes that follow a record's numbers, by way of `space`.
@@ -147,13 +116,9 @@ fn replay_job<R: Read>(
     space: &mut [u8],
     n: usize,
     m: usize,
-    number: u64,
-    line: u64,
+    stored: Stored,
 ) -> io::Result<Shown> {
-    if 131072 < n {
-        return Ok(Shown::Broken);
-    }
-    if 65536 < m {
+    if 131072 < n || 65536 < m {
         return Ok(Shown::Broken);
     }
     let all = n + m;
@@ -164,7 +129,7 @@ fn replay_job<R: Read>(
     if read < all {
         return Ok(Shown::Broken);
     }
-    Ok(answered_record(&space[0..all], n, number, line))
+    Ok(answered(&space[0..n], &space[n..all], stored))
 }
 
 // The next record.
@@ -178,16 +143,10 @@ fn replay_one<R: Read>(input: &mut R) -> io::Result<Shown> {
         return Ok(Shown::Broken);
     }
     let n = octets::get_at(&head, 0, 4) as usize;
-    let number = octets::get_at(&head, 4, 4);
-    let line = octets::get_at(&head, 8, 4);
+    let stored = Stored::read(octets::get_at(&head, 4, 4), octets::get_at(&head, 8, 4));
     let m = octets::get_at(&head, 12, 4) as usize;
     let mut space = [0u8; 196608];
-    replay_job(input, &mut space, n, m, number, line)
-}
-
-// A count with one more, up to a number that no list reaches.
-fn more(n: u64) -> u64 {
-    if n < 1000000 { n + 1 } else { n }
+    replay_job(input, &mut space, n, m, stored)
 }
 
 // Each accepted job was refused for lack of room too, so their count is in two lines.
@@ -206,13 +165,13 @@ fn main(rt: HostRuntime) -> io::Result<()> {
     for _ in 0..1000000 {
         match replay_one(&mut list)? {
             Shown::Accepted => {
-                accepted = more(accepted);
+                accepted = accepted.saturating_add(1);
             }
             Shown::Refused => {
-                refused = more(refused);
+                refused = refused.saturating_add(1);
             }
             Shown::Differs => {
-                differ = more(differ);
+                differ = differ.saturating_add(1);
             }
             Shown::Broken => {
                 println!(rt; "broken")?;

@@ -2,10 +2,11 @@
 use mathlib.Core.Path.{◌≡◌, refl, ap}
 use mathlib.Core.Bool.{cond}
 use mathlib.Core.List.{List, [], ◌∷◌, ◌++◌, map, append_assoc}
-use Prim.Native.Nat.{ℕ, suc, ◌+◌}
+use Prim.Native.Nat.{ℕ, suc, ◌+◌, ◌≤◌}
 use native.Mathlib.Omega.{arith}
 use lib.ListN.{length, take, drop}
 use lib.Dec.{eqb, eqb-suc-zero}
+use Rattle.std.specs.Prelude.{Option}
 use Rattle.octets.specs.All.{All}
 use Rattle.ast.specs.Job.{Map, Relocation}
 use Rattle.elf.specs.Elf.{Section, place, after, end_of, laid, header_bytes, section_headers, header_for}
@@ -15,14 +16,15 @@ use Rattle.object.specs.declared.Slot.{Slot}
 use Rattle.object.specs.declared.Program.{Program}
 use Rattle.object.specs.declared.BpfObject.{BpfObject}
 use Rattle.object.specs.Read.{name_in, programs_in, relocations_in, declared_maps, job_in}
-use Rattle.object.specs.Kept.{Kept, AllKept}
+use Rattle.object.specs.Kept.{Kept}
 use Rattle.object.specs.Object.{map_sections, relocation_bytes, rel_sections, past, program_sections, past_all, first_program}
 use Rattle.object.proofs.Slots.{AllCounted, part-resolved, all_counted}
+use Rattle.contents.specs.Slots.{AllPlaced}
 use Rattle.contents.proofs.Slots.{slots_relocations, resolved_placed}
 use Rattle.strtab.proofs.Whole.{count_declared}
 use Rattle.elf.specs.Headers.{headers_bytes}
 use Rattle.measure.specs.Measured.{rows_from, sections_of, table_sections}
-use Rattle.sections.specs.Pieces.{bare, rel_piece, program_pieces, map_pieces, table_pieces, all_pieces, AllSlotted}
+use Rattle.sections.specs.Pieces.{bare, rel_piece, program_pieces, map_pieces, table_pieces, all_pieces}
 
 abbrev pub Alike : List Section → List Section → Type 0
 Alike [] [] = Unit
@@ -65,7 +67,7 @@ alike_rel : (symtab at : ℕ) (name : List ℕ) (rs : List Relocation)
 alike_rel symtab at name [] = tt
 alike_rel symtab at name (r ∷ rs) = rw (eqb-suc-zero (length rs)) (refl, refl, tt)
 
-alike_programs : (text : List ℕ) (slots : List Slot) (symtab at : ℕ) (ps : List Program) → AllCounted text slots ps
+alike_programs : (text : List ℕ) (slots : List (Option Slot)) (symtab at : ℕ) (ps : List Program) → AllCounted text slots ps
     → Alike (program_sections symtab at (programs_in text slots ps)) (program_pieces text slots ps)
 alike_programs text slots symtab at [] c = tt
 alike_programs text slots symtab at (p ∷ ps) c =
@@ -83,12 +85,9 @@ module _ (text : List ℕ) (o : BpfObject) (k : Kept text o) where
   abbrev ms : List Map
   ms = declared_maps text o
 
-  slotted : (ps : List Program) → AllKept text o.reloc_count ps → AllSlotted text o.slots ps
-  slotted [] q = tt
-  slotted (p ∷ ps) q = (resolved_placed text ms (take p.relocs (drop p.first o.slots)) (part-resolved text o k p q.0.slots), slotted ps q.1)
-
-  pub all_slotted : AllSlotted text o.slots (take o.program_count o.programs)
-  all_slotted = slotted (take o.program_count o.programs) k.programs
+  -- the offsets of a program's slots are in the text
+  pub placed : (p : Program) → p.first + p.relocs ≤ o.reloc_count → AllPlaced text (take p.relocs (drop p.first o.slots))
+  placed p h = resolved_placed text ms (take p.relocs (drop p.first o.slots)) (part-resolved text o k p h)
 
   pub alike_all : Alike (sections_of (job_in text o)) (all_pieces text o)
   alike_all =

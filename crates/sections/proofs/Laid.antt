@@ -10,7 +10,7 @@ use Rattle.octets.proofs.Laws.{over-length}
 use Rattle.octets.proofs.Filling.{over-part, over_two}
 use Rattle.elf.specs.Elf.{Section, align_to, place, after, end_of, padding, laid}
 use Rattle.elf.proofs.Places.{align_up, align_small}
-use Rattle.sections.specs.Pieces.{Fits}
+use Rattle.sections.specs.Pieces.{bare, Fits, Room}
 
 pub laid-append : (end : ℕ) (xs ys : List Section) → laid end (xs ++ ys) ≡ laid end xs ++ laid (end_of end xs) ys
 laid-append end [] ys = refl
@@ -57,3 +57,10 @@ module _ {d : List ℕ} {end size : ℕ} {s : Section} (f : Fits d end size s) w
         let n : at ≡ end + length (padding s.align end) = omega (arith, it, padded, up) in
         over_two d end (padding s.align end) s.contents d₁ _ at (omega (arith, up, f.room)) cleared n (over-part d₁ at (at + size) l s.contents (ap (λ (x : ℕ). at + x) (sym f.long)) q)
         ∙ ap (over d end) (ap (λ (r : List ℕ). padding s.align end ++ r) (sym (append-nil s.contents)))
+
+-- where a section fits, any bytes of its size at its alignment do
+pub fits_room : {d : List ℕ} {end size : ℕ} {s : Section} → Fits d end size s → Room d end s.align size
+fits_room f = record { aligned = f.aligned; room = f.room; short = f.short }
+
+pub room_fits : {d : List ℕ} {end align size : ℕ} (bytes : List ℕ) → Room d end align size → length bytes ≡ size → Fits d end size (bare align bytes)
+room_fits bytes r n = record { aligned = r.aligned; long = sym n; room = r.room; short = r.short }

@@ -2,12 +2,14 @@
 use mathlib.Core.Path.{◌≡◌, refl, sym, ◌∙◌, ap}
 use mathlib.Core.Bool.{Bool, true, false, cond}
 use mathlib.Core.List.{List, [], ◌∷◌, ◌++◌}
-use Prim.Native.Nat.{ℕ, ◌+◌, ◌*◌, ◌≤◌}
+use Prim.Native.Nat.{ℕ, ◌+◌, ◌≤◌}
 use native.Mathlib.Omega.{arith}
-use lib.ListN.{length, take, drop, length-drop}
-use lib.Seq.{length-take-le}
+use lib.ListN.{length, take, drop}
 use lib.Dec.{eqb}
 use borrow.Author.Tests.{eq-eqb, ne_eqb}
+use Rattle.std.specs.Prelude.{Option}
+use Rattle.std.specs.Borrow.{MutBor}
+use Rattle.std.specs.Fn.{Once}
 use Rattle.octets.specs.Octets.{zeros}
 use Rattle.octets.specs.Over.{over}
 use Rattle.ast.specs.Job.{Map}
@@ -16,15 +18,15 @@ use Rattle.btf.specs.Maps.{map_types, btf_types}
 use Rattle.octets.specs.All.{All}
 use Rattle.octets.proofs.Lists.{all_append}
 use Rattle.octets.proofs.Going.{Going, over_nothing, go_start, go_as, go_on, go_done}
-use Rattle.elf.specs.Elf.{Section, after, end_of, laid}
+use Rattle.elf.specs.Elf.{Section, align_to, after, end_of, laid}
 use Rattle.elf.specs.Added.{Alignment}
 use Rattle.elf.proofs.Places.{Aligned, end_after, length-laid}
 use Rattle.object.specs.declared.Slot.{Slot}
 use Rattle.object.specs.declared.Program.{Program}
-use Rattle.contents.specs.Slots.{slots_bytes, AllPlaced}
-use Rattle.contents.proofs.Slots.{slots_length}
-use Rattle.sections.specs.Pieces.{bare, rel_piece, program_pieces, map_pieces, Fits}
-use Rattle.sections.proofs.Laid.{laid-append, end_append}
+use Rattle.object.specs.Read.{code_of, body}
+use Rattle.contents.specs.Slots.{slots_bytes}
+use Rattle.sections.specs.Pieces.{bare, own_pieces, program_pieces, map_pieces, Fits, Room, Wrote}
+use Rattle.sections.proofs.Laid.{laid-append, end_append, fits_room}
 
 -- `all` are to be written from `start` on over `d`; they are written up to `end`, and `rest` is to come
 pub record Turn (d : List ℕ) (start : ℕ) (all : List Section) (out : List ℕ) (end : ℕ) (rest : List Section) : Type 0 where
@@ -57,35 +59,38 @@ module _ {d : List ℕ} {start : ℕ} {all : List Section} {out : List ℕ} {end
         aligned = t.aligned.1;
       })
 
+  -- the same of a section that is laid: it has room, and then the bytes that were left are its contents
+  pub turn_room : (size : ℕ) (s : Section) (rest : List Section) → Turn d start all out end (s ∷ rest) → Alignment s.align → size ≡ length s.contents → length d ≤ 200000000
+      → Room out end s.align size
+  turn_room size s rest t a n short = fits_room (turn_fits size s rest t a n short)
+
+  pub turn_lay : {F : Type 0} {g : Once F (MutBor (List ℕ) × Unit {0}) (Unit {0} × (MutBor (List ℕ) × Unit {0}))} {write : F} {size : ℕ} {out' : List ℕ} {end' : ℕ} (s : Section) (rest : List Section)
+      → Turn d start all out end (s ∷ rest) → size ≡ length s.contents → (w : Wrote g write out end s.align size out') → end' ≡ align_to s.align end + size → w.bytes ≡ s.contents → Turn d start all out' end' rest
+  turn_lay {F} {g} {write} {size} {out'} {end'} s rest t n w e b =
+      turn_on s rest out' end' t (w.is ∙ ap (λ (x : List ℕ). over out end (laid end (bare s.align x ∷ []))) b) (e ∙ ap (λ (k : ℕ). align_to s.align end + k) n)
+
   pub turn_done : Turn d start all out end [] → (out ≡ over d start (laid start all)) × (end ≡ end_of start all)
   turn_done t = ((go_done t.going).0, t.ends)
 
 -- ---- programs
 
-aligned_rel : (text : List ℕ) (slots : List Slot) (p : Program) → All Aligned (rel_piece text slots p)
-aligned_rel text slots p = go (eqb p.relocs 0)
+pub aligned_own : (text : List ℕ) (part : List (Option Slot)) (p : Program) → All Aligned (own_pieces text part p)
+aligned_own text part p = (omega arith, go (eqb p.relocs 0))
   where
-    go : (b : Bool) → All Aligned (cond b [] (bare 8 (slots_bytes text (take p.relocs (drop p.first slots))) ∷ []))
+    go : (b : Bool) → All Aligned (cond b [] (bare 8 (slots_bytes text part) ∷ []))
     go true = tt
     go false = (omega arith, tt)
 
-pub aligned_programs : (text : List ℕ) (slots : List Slot) (ps : List Program) → All Aligned (program_pieces text slots ps)
+pub aligned_programs : (text : List ℕ) (slots : List (Option Slot)) (ps : List Program) → All Aligned (program_pieces text slots ps)
 aligned_programs text slots [] = tt
-aligned_programs text slots (p ∷ ps) = (omega arith, all_append Aligned (rel_piece text slots p) (program_pieces text slots ps) (aligned_rel text slots p) (aligned_programs text slots ps))
+aligned_programs text slots (p ∷ ps) =
+    let part = take p.relocs (drop p.first slots) in
+    all_append Aligned (own_pieces text part p) (program_pieces text slots ps) (aligned_own text part p) (aligned_programs text slots ps)
 
--- a program without relocations has its code alone, one with relocations has them after it
-pub no_rels : (text : List ℕ) (slots : List Slot) (p : Program) (rest : List Section) → p.relocs ≡ 0 → rel_piece text slots p ++ rest ≡ rest
-no_rels text slots p rest e = rw (eq-eqb p.relocs 0 e)
-
-pub some_rels : (text : List ℕ) (slots : List Slot) (p : Program) (rest : List Section) → (p.relocs ≡ 0 → ⊥)
-    → rel_piece text slots p ++ rest ≡ bare 8 (slots_bytes text (take p.relocs (drop p.first slots))) ∷ rest
-some_rels text slots p rest e = rw (ne_eqb p.relocs 0 e)
-
-pub rels_long : (text : List ℕ) (slots : List Slot) (p : Program) → length slots ≡ 256 → p.first + p.relocs ≤ 256 → AllPlaced text (take p.relocs (drop p.first slots))
-    → length (slots_bytes text (take p.relocs (drop p.first slots))) ≡ 16 * p.relocs
-rels_long text slots p l h a =
-    let n : length (take p.relocs (drop p.first slots)) ≡ p.relocs = length-take-le p.relocs (drop p.first slots) (rw length-drop (omega arith)) in
-    slots_length text (take p.relocs (drop p.first slots)) a ∙ ap (λ (k : ℕ). 16 * k) n
+-- a program with relocations has them after its code
+pub some_rels : (text : List ℕ) (part : List (Option Slot)) (p : Program) → (p.relocs ≡ 0 → ⊥)
+    → own_pieces text part p ≡ bare 8 (code_of (body text p.from p.lines)) ∷ bare 8 (slots_bytes text part) ∷ []
+some_rels text part p e = rw (ne_eqb p.relocs 0 e)
 
 -- ---- maps
 
@@ -99,11 +104,6 @@ no_maps count ms e = rw (eq-eqb count 0 e)
 pub some_maps : (count : ℕ) (ms : List Map) → (count ≡ 0 → ⊥)
     → map_pieces count ms ≡ bare 8 (zeros (map_types 6 0 ms).size) ∷ bare 4 (btf_bytes (btf_types ms)) ∷ []
 some_maps count ms e = rw (ne_eqb count 0 e)
-
--- a section of zeros, by its size
-pub zeros_piece : (out out' : List ℕ) (end end' size n : ℕ) → n ≡ size → out' ≡ over out end (laid end (bare 8 (zeros size) ∷ [])) → end' ≡ end_of end (bare 8 (zeros size) ∷ [])
-    → (out' ≡ over out end (laid end (bare 8 (zeros n) ∷ []))) × (end' ≡ end_of end (bare 8 (zeros n) ∷ []))
-zeros_piece out out' end end' size n e p q = (rw e p, rw e q)
 
 -- ---- rows in a row
 

@@ -1,27 +1,23 @@
 // The sections of an object. Each is written into its own part of the output, and the bytes between two are cleared.
 #![tactic(auto)]
 
-ghost use Rattle.std.specs.Prelude.{◌≡◌, [], ◌∷◌, ◌++◌, ◌+◌, ◌*◌, ◌≤◌, length, take, drop};
-ghost use Rattle.octets.specs.Octets.{zeros};
+ghost use Rattle.std.specs.Prelude.{◌≡◌, List, ℕ, ◌+◌, ◌≤◌, length, take};
+ghost use Rattle.std.specs.Fn.{FnOnceTakesAtMut};
 ghost use Rattle.octets.specs.Over.{over};
 ghost use Rattle.elf.specs.Elf.{align_to, padding, laid, end_of};
 ghost use Rattle.elf.specs.Added.{Alignment};
-ghost use Rattle.object.specs.Read.{licence_in, code_of, body, declared_maps, job_in};
-ghost use Rattle.object.specs.Kept.{Kept, LicenceNamed, AllFrames};
-ghost use Rattle.strtab.specs.Rows.{symtab_of, strtab_of, ProgramsThere};
+ghost use Rattle.object.specs.Read.{declared_maps, job_in};
+ghost use Rattle.object.specs.Kept.{Kept, ProgramKept};
 ghost use Rattle.headers.specs.Names.{shstrtab_of};
-ghost use Rattle.contents.specs.Slots.{slots_bytes, AllPlaced};
+ghost use Rattle.contents.specs.Slots.{AllPlaced};
 ghost use Rattle.measure.specs.Measured.{SizesOf, Small};
-ghost use Rattle.sections.specs.Pieces.{bare, program_pieces, map_pieces, table_pieces, all_pieces, Fits, AllSlotted};
-ghost use Rattle.btf.specs.Btf.{btf_bytes, add_types, start};
+ghost use Rattle.sections.specs.Pieces.{own_pieces, program_pieces, map_pieces, table_pieces, all_pieces, Room, Wrote};
+ghost use Rattle.btf.specs.Btf.{add_types, start};
 ghost use Rattle.btf.specs.Maps.{btf_types};
-ghost use Rattle.named.specs.There.{MapsThere, Lent};
-ghost use Rattle.members.specs.Section.{the_maps};
 
-use ast::MapDecl;
 use elf::{FileHeader, Rel, Section, Symbol};
 use measure::Sizes;
-use object::{BpfObject, License, Program, Slot};
+use object::{BpfObject, Program, Slot};
 
 // Clears the bytes from `end` to the next place of that alignment; returns that place.
 fn pad(out: &mut [u8], end: usize, align: u64) -> usize
@@ -35,279 +31,158 @@ fn pad(out: &mut [u8], end: usize, align: u64) -> usize
     at
 }
 
-// The licence's section, after what ends at `end`; returns where it ends.
-fn lay_license(out: &mut [u8], end: usize, text: &[u8], license: License, size: usize) -> usize
-    requires licence_named { LicenceNamed text.now license }
-    requires fits { Fits out.old end size (bare 1 (licence_in text.now license ++ (0 ∷ []))) }
-    ensures out_after { out.new ≡ over out.old end (laid end (bare 1 (licence_in text.now license ++ (0 ∷ [])) ∷ [])) }
-    ensures value { result ≡ end_of end (bare 1 (licence_in text.now license ++ (0 ∷ [])) ∷ []) }
+// A section of `size` bytes, after what ends at `end`: `write` is lent its part of the output, and no other. Returns where it ends.
+fn lay<F: FnOnce(&mut [u8])>(out: &mut [u8], end: usize, align: u64, size: usize, write: F) -> usize
+    requires room { Room out.old end align size }
+    requires writes { (part : List ℕ) → length part ≡ size → FnOnceTakesAtMut F.FnOnce write part }
+    ensures out_after { Wrote F.FnOnce write out.old end align size out.new }
+    ensures value { result ≡ align_to align end + size }
 {
-    let at = pad(out, end, Section::ALIGN_BYTE);
+    let at = pad(out, end, align);
     let behind = at + size;
-    contents::put_license(&mut out[at..behind], text, license);
-    behind
-}
-
-// A program's section, after what ends at `end`; returns where it ends.
-fn lay_code(out: &mut [u8], end: usize, text: &[u8], program: Program) -> usize
-    requires lines_len { length (body text.now program.from program.lines) ≡ program.lines }
-    requires all_frames { AllFrames (body text.now program.from program.lines) }
-    requires fits { Fits out.old end program.code_len (bare 8 (code_of (body text.now program.from program.lines))) }
-    ensures out_after { out.new ≡ over out.old end (laid end (bare 8 (code_of (body text.now program.from program.lines)) ∷ [])) }
-    ensures value { result ≡ end_of end (bare 8 (code_of (body text.now program.from program.lines)) ∷ []) }
-{
-    let at = pad(out, end, Section::ALIGN_DOUBLE);
-    let behind = at + program.code_len as usize;
-    bodies::put_code(
-        &mut out[at..behind],
-        text,
-        program.from as usize,
-        program.lines as usize,
-    );
-    behind
-}
-
-// A program's REL section, after what ends at `end`; returns where it ends.
-fn lay_rels(
-    out: &mut [u8],
-    end: usize,
-    text: &[u8],
-    slots: [Slot; BpfObject::RELOCATIONS],
-    program: Program,
-) -> usize
-    requires relocs_bound { program.first + program.relocs ≤ 256 }
-    requires all_placed { AllPlaced text.now (take program.relocs (drop program.first slots)) }
-    requires fits { Fits out.old end (16 * program.relocs) (bare 8 (slots_bytes text.now (take program.relocs (drop program.first slots)))) }
-    ensures out_after { out.new ≡ over out.old end (laid end (bare 8 (slots_bytes text.now (take program.relocs (drop program.first slots))) ∷ [])) }
-    ensures value { result ≡ end_of end (bare 8 (slots_bytes text.now (take program.relocs (drop program.first slots))) ∷ []) }
-{
-    let at = pad(out, end, Section::ALIGN_DOUBLE);
-    let behind = at + Rel::SIZE * (program.relocs as usize);
-    contents::put_rels(
-        &mut out[at..behind],
-        text,
-        slots,
-        program.first as usize,
-        program.relocs as usize,
-    );
-    behind
-}
-
-// A section of zeros, `.maps`, after what ends at `end`; returns where it ends.
-fn lay_zeros(out: &mut [u8], end: usize, size: usize) -> usize
-    requires { Fits out.old end size (bare 8 (zeros size)) }
-    ensures out_after { out.new ≡ over out.old end (laid end (bare 8 (zeros size) ∷ [])) }
-    ensures value { result ≡ end_of end (bare 8 (zeros size) ∷ []) }
-{
-    let at = pad(out, end, Section::ALIGN_DOUBLE);
-    let behind = at + size;
-    octets::clear(&mut out[at..behind]);
-    behind
-}
-
-// `.symtab`, after what ends at `end`; returns where it ends.
-fn lay_symtab<'a>(
-    out: &mut [u8],
-    end: usize,
-    text: &[u8],
-    object: BpfObject,
-    ats: &'a [u16],
-    lens: &'a [u16],
-    license: usize,
-    size: usize,
-) -> usize
-    requires lent { Lent text.now object ats.now lens.now }
-    requires license_value { (license ≡ length (licence_in text.now object.license)) × (license ≤ 64) }
-    requires fits { Fits out.old end size (bare 8 (symtab_of (job_in text.now object))) }
-    ensures out_after { out.new ≡ over out.old end (laid end (bare 8 (symtab_of (job_in text.now object)) ∷ [])) }
-    ensures value { result ≡ end_of end (bare 8 (symtab_of (job_in text.now object)) ∷ []) }
-{
-    let at = pad(out, end, Section::ALIGN_DOUBLE);
-    let behind = at + size;
-    symbols::build_symtab(&mut out[at..behind], text, object, ats, lens, license);
-    behind
-}
-
-// `.strtab`, after what ends at `end`; returns where it ends.
-fn lay_strtab<'a>(
-    out: &mut [u8],
-    end: usize,
-    text: &[u8],
-    object: BpfObject,
-    ats: &'a [u16],
-    lens: &'a [u16],
-    size: usize,
-) -> usize
-    requires lent { Lent text.now object ats.now lens.now }
-    requires fits { Fits out.old end size (bare 1 (strtab_of (job_in text.now object))) }
-    ensures out_after { out.new ≡ over out.old end (laid end (bare 1 (strtab_of (job_in text.now object)) ∷ [])) }
-    ensures value { result ≡ end_of end (bare 1 (strtab_of (job_in text.now object)) ∷ []) }
-{
-    let at = pad(out, end, Section::ALIGN_BYTE);
-    let behind = at + size;
-    strtab::put_strtab(&mut out[at..behind], text, object, ats, lens);
-    behind
-}
-
-// `.shstrtab`, after what ends at `end`; returns where it ends.
-fn lay_shstrtab(out: &mut [u8], end: usize, text: &[u8], object: BpfObject, size: usize) -> usize
-    requires kept { Kept text.now object }
-    requires fits { Fits out.old end size (bare 1 (shstrtab_of (job_in text.now object))) }
-    ensures out_after { out.new ≡ over out.old end (laid end (bare 1 (shstrtab_of (job_in text.now object)) ∷ [])) }
-    ensures value { result ≡ end_of end (bare 1 (shstrtab_of (job_in text.now object)) ∷ []) }
-{
-    let at = pad(out, end, Section::ALIGN_BYTE);
-    let behind = at + size;
-    headers::build_shstrtab(&mut out[at..behind], text, object);
-    behind
-}
-
-// The sections of programs, after what ends at `start`; returns where they end.
-fn lay_programs(
-    out: &mut [u8],
-    start: usize,
-    text: &[u8],
-    slots: [Slot; BpfObject::RELOCATIONS],
-    programs: [Program; BpfObject::PROGRAMS],
-    count: usize,
-) -> usize
-    requires programs_there { ProgramsThere text.now programs count }
-    requires all_slotted { AllSlotted text.now slots (take count programs) }
-    requires slots_len { length slots ≡ 256 }
-    requires programs_in_bounds { (end_of start (program_pieces text.now slots (take count programs)) ≤ length out.old) × (length out.old ≤ 200000000) }
-    ensures out_after { out.new ≡ over out.old start (laid start (program_pieces text.now slots (take count programs))) }
-    ensures value { result ≡ end_of start (program_pieces text.now slots (take count programs)) }
-{
-    let mut end = start;
-    let mut i = 0;
-    while i < count {
-        let program = programs[i];
-        end = lay_code(out, end, text, program);
-        i += 1;
-        if program.relocs != 0 {
-            end = lay_rels(out, end, text, slots, program);
-        }
-    }
-    end
-}
-
-// The sections of the object's programs, after what ends at `end`; returns where they end. With no program, no table is passed on, since a
-// table that is passed is copied.
-fn write_programs(out: &mut [u8], end: usize, text: &[u8], object: BpfObject) -> usize
-    requires kept { Kept text.now object }
-    requires programs_in_bounds { (end_of end (program_pieces text.now object.slots (take object.program_count object.programs)) ≤ length out.old) × (length out.old ≤ 200000000) }
-    ensures out_after { out.new ≡ over out.old end (laid end (program_pieces text.now object.slots (take object.program_count object.programs))) }
-    ensures value { result ≡ end_of end (program_pieces text.now object.slots (take object.program_count object.programs)) }
-{
-    let count = object.program_count;
-    if count == 0 {
-        return end;
-    }
-    let programs = object.programs;
-    let slots = object.slots;
-    lay_programs(out, end, text, slots, programs, count)
-}
-
-// `.BTF`, after what ends at `end`; returns where it ends.
-fn lay_btf<'a>(
-    out: &mut [u8],
-    end: usize,
-    text: &[u8],
-    maps: [MapDecl; BpfObject::MAPS],
-    ats: &'a [u16],
-    lens: &'a [u16],
-    count: usize,
-    types: usize,
-    size: usize,
-) -> usize
-    requires maps_there { MapsThere text.now maps ats.now lens.now count }
-    requires types_value { types ≡ length (add_types (btf_types (the_maps text.now maps ats.now lens.now count)) start).types }
-    requires fits { Fits out.old end size (bare 4 (btf_bytes (btf_types (the_maps text.now maps ats.now lens.now count)))) }
-    ensures out_after { out.new ≡ over out.old end (laid end (bare 4 (btf_bytes (btf_types (the_maps text.now maps ats.now lens.now count))) ∷ [])) }
-    ensures value { result ≡ end_of end (bare 4 (btf_bytes (btf_types (the_maps text.now maps ats.now lens.now count))) ∷ []) }
-{
-    let at = pad(out, end, Section::ALIGN_WORD);
-    let behind = at + size;
-    types::build_btf(&mut out[at..behind], text, maps, ats, lens, count, types);
+    write(&mut out[at..behind]);
     behind
 }
 
 // `.maps` and `.BTF`, if there are maps, after what ends at `end`; returns where they end.
-fn write_maps<'a>(
+fn write_maps(
     out: &mut [u8],
     end: usize,
     text: &[u8],
-    object: BpfObject,
-    ats: &'a [u16],
-    lens: &'a [u16],
+    object: &BpfObject,
     types: usize,
     sizes: Sizes,
 ) -> usize
-    requires lent { Lent text.now object ats.now lens.now }
-    requires types_value { types ≡ length (add_types (btf_types (declared_maps text.now object)) start).types }
-    requires sizes_of { SizesOf (job_in text.now object) sizes }
-    requires object_in_bounds { (end_of end (map_pieces object.map_count (declared_maps text.now object)) ≤ length out.old) × (length out.old ≤ 200000000) }
-    ensures out_after { out.new ≡ over out.old end (laid end (map_pieces object.map_count (declared_maps text.now object))) }
-    ensures value { result ≡ end_of end (map_pieces object.map_count (declared_maps text.now object)) }
+    requires kept { Kept text.now object.now }
+    requires types_value { types ≡ length (add_types (btf_types (declared_maps text.now object.now)) start).types }
+    requires sizes_of { SizesOf (job_in text.now object.now) sizes }
+    requires object_in_bounds { (end_of end (map_pieces object.now.map_count (declared_maps text.now object.now)) ≤ length out.old) × (length out.old ≤ 200000000) }
+    ensures out_after { out.new ≡ over out.old end (laid end (map_pieces object.now.map_count (declared_maps text.now object.now))) }
+    ensures value { result ≡ end_of end (map_pieces object.now.map_count (declared_maps text.now object.now)) }
 {
-    let maps = object.maps;
-    let count = object.map_count;
-    if count == 0 {
+    if object.map_count == 0 {
         return end;
     }
-    let middle = lay_zeros(out, end, sizes.maps);
-    lay_btf(out, middle, text, maps, ats, lens, count, types, sizes.btf)
+    let maps = object.maps();
+    let middle = lay(out, end, Section::ALIGN_DOUBLE, sizes.maps, octets::clear);
+    lay(
+        out,
+        middle,
+        Section::ALIGN_WORD,
+        sizes.btf,
+        |part| types::build_btf(part, text, maps, types),
+    )
+}
+
+// A program's section, and its REL section if it has relocations, after what ends at `start`; returns where they end. `slots` are the
+// program's own.
+fn write_program(
+    out: &mut [u8],
+    start: usize,
+    text: &[u8],
+    slots: &[Option<Slot>],
+    program: Program,
+) -> usize
+    requires kept { ProgramKept text.now 256 program }
+    requires all_placed { AllPlaced text.now slots.now }
+    requires slots_len { length slots.now ≡ program.relocs }
+    requires program_in_bounds { (end_of start (own_pieces text.now slots.now program) ≤ length out.old) × (length out.old ≤ 200000000) }
+    ensures out_after { out.new ≡ over out.old start (laid start (own_pieces text.now slots.now program)) }
+    ensures value { result ≡ end_of start (own_pieces text.now slots.now program) }
+{
+    let code = program.code_len as usize;
+    let coded = lay(out, start, Section::ALIGN_DOUBLE, code, |part| {
+        bodies::put_code(part, text, program.from as usize, program.lines as usize)
+    });
+    if program.relocs == 0 {
+        return coded;
+    }
+    let rels = Rel::SIZE * program.relocs as usize;
+    lay(
+        out,
+        coded,
+        Section::ALIGN_DOUBLE,
+        rels,
+        |part| contents::put_rels(part, text, slots),
+    )
+}
+
+// The sections of the object's programs, after what ends at `start`; returns where they end.
+fn write_programs(out: &mut [u8], start: usize, text: &[u8], object: &BpfObject) -> usize
+    requires kept { Kept text.now object.now }
+    requires programs_in_bounds { (end_of start (program_pieces text.now object.now.slots (take object.now.program_count object.now.programs)) ≤ length out.old) × (length out.old ≤ 200000000) }
+    ensures out_after { out.new ≡ over out.old start (laid start (program_pieces text.now object.now.slots (take object.now.program_count object.now.programs))) }
+    ensures value { result ≡ end_of start (program_pieces text.now object.now.slots (take object.now.program_count object.now.programs)) }
+{
+    let programs = object.programs();
+    let mut end = start;
+    for program in programs {
+        let first = program.first as usize;
+        let slots = &object.slots[first..first + program.relocs as usize];
+        end = write_program(out, end, text, slots, *program);
+    }
+    end
 }
 
 // The three tables, after what ends at `end`; returns where they end. The sections' names take `names` bytes.
-fn write_tables<'a>(
+fn write_tables(
     out: &mut [u8],
     end: usize,
     text: &[u8],
-    object: BpfObject,
-    ats: &'a [u16],
-    lens: &'a [u16],
+    object: &BpfObject,
     sizes: Sizes,
     names: usize,
 ) -> usize
-    requires lent { Lent text.now object ats.now lens.now }
-    requires sizes_of { SizesOf (job_in text.now object) sizes }
+    requires kept { Kept text.now object.now }
+    requires sizes_of { SizesOf (job_in text.now object.now) sizes }
     requires small { Small sizes }
-    requires names_value { names ≡ length (shstrtab_of (job_in text.now object)) }
-    requires object_in_bounds { (end_of end (table_pieces (job_in text.now object)) ≤ length out.old) × (length out.old ≤ 200000000) }
-    ensures out_after { out.new ≡ over out.old end (laid end (table_pieces (job_in text.now object))) }
-    ensures value { result ≡ end_of end (table_pieces (job_in text.now object)) }
+    requires names_value { names ≡ length (shstrtab_of (job_in text.now object.now)) }
+    requires object_in_bounds { (end_of end (table_pieces (job_in text.now object.now)) ≤ length out.old) × (length out.old ≤ 200000000) }
+    ensures out_after { out.new ≡ over out.old end (laid end (table_pieces (job_in text.now object.now))) }
+    ensures value { result ≡ end_of end (table_pieces (job_in text.now object.now)) }
 {
+    let license = sizes.license;
     let symbols = Symbol::SIZE * (Symbol::FIRST_MAP + object.map_count + object.program_count);
-    let first = lay_symtab(out, end, text, object, ats, lens, sizes.license, symbols);
-    let second = lay_strtab(out, first, text, object, ats, lens, sizes.strtab);
-    lay_shstrtab(out, second, text, object, names)
+    let first = lay(out, end, Section::ALIGN_DOUBLE, symbols, |part| {
+        symbols::build_symtab(part, text, object, license)
+    });
+    let second = lay(out, first, Section::ALIGN_BYTE, sizes.strtab, |part| {
+        strtab::put_strtab(part, text, object)
+    });
+    lay(
+        out,
+        second,
+        Section::ALIGN_BYTE,
+        names,
+        |part| headers::build_shstrtab(part, text, object),
+    )
 }
 
 // All sections, from the end of the file header on; returns where they end. Their names take `names` bytes, and the types in `.BTF` take
 // `types`.
-pub fn write_sections<'a>(
+pub fn write_sections(
     out: &mut [u8],
     text: &[u8],
-    object: BpfObject,
-    ats: &'a [u16],
-    lens: &'a [u16],
+    object: &BpfObject,
     sizes: Sizes,
     names: usize,
     types: usize,
 ) -> usize
-    requires lent { Lent text.now object ats.now lens.now }
-    requires sizes_of { SizesOf (job_in text.now object) sizes }
+    requires kept { Kept text.now object.now }
+    requires sizes_of { SizesOf (job_in text.now object.now) sizes }
     requires small { Small sizes }
-    requires names_value { names ≡ length (shstrtab_of (job_in text.now object)) }
-    requires types_value { types ≡ length (add_types (btf_types (declared_maps text.now object)) start).types }
-    requires object_in_bounds { (end_of 64 (all_pieces text.now object) ≤ length out.old) × (length out.old ≤ 200000000) }
-    ensures out_after { out.new ≡ over out.old 64 (laid 64 (all_pieces text.now object)) }
-    ensures value { result ≡ end_of 64 (all_pieces text.now object) }
+    requires names_value { names ≡ length (shstrtab_of (job_in text.now object.now)) }
+    requires types_value { types ≡ length (add_types (btf_types (declared_maps text.now object.now)) start).types }
+    requires object_in_bounds { (end_of 64 (all_pieces text.now object.now) ≤ length out.old) × (length out.old ≤ 200000000) }
+    ensures out_after { out.new ≡ over out.old 64 (laid 64 (all_pieces text.now object.now)) }
+    ensures value { result ≡ end_of 64 (all_pieces text.now object.now) }
 {
-    let declared = object.license;
-    let licensed = lay_license(out, FileHeader::SIZE, text, declared, sizes.license + 1);
-    let mapped = write_maps(out, licensed, text, object, ats, lens, types, sizes);
+    let start = FileHeader::SIZE;
+    let size = sizes.license + 1;
+    let licensed = lay(out, start, Section::ALIGN_BYTE, size, |part| {
+        contents::put_license(part, text, object.license)
+    });
+    let mapped = write_maps(out, licensed, text, object, types, sizes);
     let programmed = write_programs(out, mapped, text, object);
-    write_tables(out, programmed, text, object, ats, lens, sizes, names)
+    write_tables(out, programmed, text, object, sizes, names)
 }

@@ -18,13 +18,11 @@ use Rattle.ast.specs.declared.«Type».{«Type» as MemberType}
 use Rattle.ast.specs.declared.«Type».TheVariants.{U32, U64, I32, I64}
 use Rattle.ast.specs.declared.MapType.{MapType}
 use Rattle.ast.specs.declared.MapType.TheVariants.{Hash, Array, ProgArray, LruHash, Ringbuf}
-use Rattle.ast.specs.declared.TypeAttr.{TypeAttr}
-use Rattle.ast.specs.declared.TypeAttr.TheVariants as type
-use Rattle.ast.specs.declared.CountAttr.{CountAttr}
-use Rattle.ast.specs.declared.CountAttr.TheVariants as count
+use Rattle.ast.specs.declared.Attr.{Attr}
+use Rattle.ast.specs.declared.Attr.TheVariants.{Absent, Present}
 use Rattle.elf.specs.Elf.{Symbol}
 use Rattle.btf.specs.Btf.{BtfType, struct, var, datasec}
-use Rattle.btf.specs.Maps.{type_id, int_types, Attributes, add_number, add_type_attr, add_count_attr, attributes, map_size, map_types, btf_types}
+use Rattle.btf.specs.Maps.{type_id, int_types, Attributes, add_number, add_pointer, add_attr, attributes, map_size, map_types, btf_types}
 use Rattle.btf.proofs.MapTypes.{attributes-next, map_size_lem, count_vars}
 use Rattle.object.specs.Object.{map_symbols}
 use Rattle.reading.specs.Steps.{numbered}
@@ -80,7 +78,7 @@ from_after : (b : List reading.BtfType) (next : ℕ) (xs ys : List reading.BtfTy
 from_after b next xs ys n h e = record { id = λ k i q. h.id (length xs + k) i (omega arith) ∙ get_add xs ys k }
 
 -- a map by its parts
-abbrev map_by : List ℕ → MapType → TypeAttr → TypeAttr → CountAttr → Map
+abbrev map_by : List ℕ → MapType → Attr MemberType → Attr MemberType → Attr ℕ → Map
 map_by name kind key value entries = record { name = name; kind = kind; key = key; value = value; entries = entries }
 
 module _ (b : List reading.BtfType) (ints : Ints b) (next at : ℕ) (raw name : List ℕ) (short : length name ≤ 64) (kind : MapType)
@@ -102,15 +100,15 @@ module _ (b : List reading.BtfType) (ints : Ints b) (next at : ℕ) (raw name : 
   kind_from h x y = number_from h 0 next (map_type_number kind) (omega arith) x y
 
   -- by which attributes are there: each is found by its member, and there is no other member
-  map_read : (key value : TypeAttr) (entries : CountAttr) → From b next (map seen_type (attributes next (map_by raw kind key value entries)).types ++ post)
+  map_read : (key value : Attr MemberType) (entries : Attr ℕ) → From b next (map seen_type (attributes next (map_by raw kind key value entries)).types ++ post)
       → map_of b at (some name) (map seen_member (attributes next (map_by raw kind key value entries)).members)
       ≡ some (record { map = map_by name kind key value entries; offset = at })
-  map_read type.Absent type.Absent count.Absent h = rw (le-leb (length name) 64 short, kind_from h refl refl, map_type_lem)
-  map_read type.Absent type.Absent (count.Present n) h =
+  map_read Absent Absent Absent h = rw (le-leb (length name) 64 short, kind_from h refl refl, map_type_lem)
+  map_read Absent Absent (Present n) h =
       rw (le-leb (length name) 64 short, kind_from h refl refl, map_type_lem, number_from h 2 (next + 2) n (omega arith) refl refl)
-  map_read type.Absent (type.Present v) count.Absent h =
+  map_read Absent (Present v) Absent h =
       rw (le-leb (length name) 64 short, kind_from h refl refl, map_type_lem, type_from h 2 (next + 2) v (omega arith) refl)
-  map_read type.Absent (type.Present v) (count.Present n) h =
+  map_read Absent (Present v) (Present n) h =
       rw (
         le-leb (length name) 64 short,
         kind_from h refl refl,
@@ -118,9 +116,9 @@ module _ (b : List reading.BtfType) (ints : Ints b) (next at : ℕ) (raw name : 
         type_from h 2 (next + 2) v (omega arith) refl,
         number_from h 3 (next + 2 + 1) n (omega arith) refl refl,
       )
-  map_read (type.Present k) type.Absent count.Absent h =
+  map_read (Present k) Absent Absent h =
       rw (le-leb (length name) 64 short, kind_from h refl refl, map_type_lem, type_from h 2 (next + 2) k (omega arith) refl)
-  map_read (type.Present k) type.Absent (count.Present n) h =
+  map_read (Present k) Absent (Present n) h =
       rw (
         le-leb (length name) 64 short,
         kind_from h refl refl,
@@ -128,7 +126,7 @@ module _ (b : List reading.BtfType) (ints : Ints b) (next at : ℕ) (raw name : 
         type_from h 2 (next + 2) k (omega arith) refl,
         number_from h 3 (next + 2 + 1) n (omega arith) refl refl,
       )
-  map_read (type.Present k) (type.Present v) count.Absent h =
+  map_read (Present k) (Present v) Absent h =
       rw (
         le-leb (length name) 64 short,
         kind_from h refl refl,
@@ -136,7 +134,7 @@ module _ (b : List reading.BtfType) (ints : Ints b) (next at : ℕ) (raw name : 
         type_from h 2 (next + 2) k (omega arith) refl,
         type_from h 3 (next + 2 + 1) v (omega arith) refl,
       )
-  map_read (type.Present k) (type.Present v) (count.Present n) h =
+  map_read (Present k) (Present v) (Present n) h =
       rw (
         le-leb (length name) 64 short,
         kind_from h refl refl,
@@ -184,18 +182,18 @@ Skips a = (rest : List BtfType) → map_sections (map seen_type (a.types ++ rest
 skips_number : (name : List ℕ) (n : ℕ) (a : Attributes) → Skips a → Skips (add_number name n a)
 skips_number name n a h rest = rw (append_assoc a.types) (h _)
 
-skips_type : (name : List ℕ) (t : TypeAttr) (a : Attributes) → Skips a → Skips (add_type_attr name t a)
-skips_type name type.Absent a h = h
-skips_type name (type.Present t) a h = λ rest. rw (append_assoc a.types) (h _)
+skips_pointer : (name : List ℕ) (t : MemberType) (a : Attributes) → Skips a → Skips (add_pointer name t a)
+skips_pointer name t a h rest = rw (append_assoc a.types) (h _)
 
-skips_count : (name : List ℕ) (e : CountAttr) (a : Attributes) → Skips a → Skips (add_count_attr name e a)
-skips_count name count.Absent a h = h
-skips_count name (count.Present n) a h = skips_number name n a h
+skips_attr : {A : Type 0} (add : List ℕ → A → Attributes → Attributes) → ((name : List ℕ) (x : A) (a : Attributes) → Skips a → Skips (add name x a))
+    → (name : List ℕ) (attr : Attr A) (a : Attributes) → Skips a → Skips (add_attr add name attr a)
+skips_attr add f name Absent a h = h
+skips_attr add f name (Present x) a h = f name x a h
 
 attributes_skip : (next : ℕ) (m : Map) → Skips (attributes next m)
 attributes_skip next m =
-    skips_count (ascii "max_entries") m.entries _
-    (skips_type (ascii "value") m.value _ (skips_type (ascii "key") m.key _ (λ rest. refl)))
+    let pointer = skips_attr add_pointer skips_pointer in
+    skips_attr add_number skips_number (ascii "max_entries") m.entries _ (pointer (ascii "value") m.value _ (pointer (ascii "key") m.key _ (λ rest. refl)))
 
 map_sections_lem : (next at : ℕ) (ms : List Map) (rest : List BtfType)
     → map_sections (map seen_type ((map_types next at ms).types ++ rest)) ≡ map_sections (map seen_type rest)

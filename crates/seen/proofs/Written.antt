@@ -8,10 +8,10 @@ use lib.ListN.{take}
 use contract.Lifetimes.{Lfts}
 use borrow.Fn.Kinds.{Dens, res_t, ended_of}
 use denote.Triple.Clauses.{AtExit}
+use Rattle.std.specs.Prelude.{Ok}
 use Rattle.ast.specs.Job.{Job}
 use Rattle.refusals.specs.Checked.{checked, accepted}
 use Rattle.maker.specs.Made.{Outcome, object, outcome_of}
-use Rattle.maker.specs.declared.Making.TheVariants.{Made}
 use Rattle.maker.proofs.make.Kinds as make_kinds
 use Rattle.maker.proofs.make.Reads as make
 use Rattle.maker.proofs.Demands.{Met, accepted_writes}
@@ -26,7 +26,7 @@ reads_written text out after n m =
 
 -- `a.0` is the job, `e.1.0` the output afterwards, and `make.Post` the promise at `make` in the source
 pub make_loads : (κs : Lfts 2) (a : Dens κs make_kinds.ps) (z : (res_t make_kinds.r κs).Denot) (e : AtExit (ended_of 2 make_kinds.ps make_kinds.r) κs) (n : ℕ)
-    → make.Post κs a z e → z ≡ Made n → (j : Job) × (checked a.0.now ≡ accepted j) × Loads (take n e.1.0.now) j
+    → make.Post κs a z e → z ≡ Ok n → (j : Job) × (checked a.0.now ≡ accepted j) × Loads (take n e.1.0.now) j
 make_loads κs a z e n p i =
     reads_written a.0.now a.1.0.now e.1.0.now n
     (subst (λ (o : Outcome). Met a.0.now a.1.0.now o e.1.0.now) (ap outcome_of i) (make_met κs a z e p))

@@ -8,10 +8,8 @@ use Rattle.ast.specs.Numbers.{map_type_number}
 use Rattle.ast.specs.declared.«Type».{«Type» as MemberType}
 use Rattle.ast.specs.declared.«Type».TheVariants.{U32, U64, I32, I64}
 use Rattle.ast.specs.declared.MapType.TheVariants.{Hash, Array, Ringbuf}
-use Rattle.ast.specs.declared.TypeAttr.{TypeAttr}
-use Rattle.ast.specs.declared.TypeAttr.TheVariants as type
-use Rattle.ast.specs.declared.CountAttr.{CountAttr}
-use Rattle.ast.specs.declared.CountAttr.TheVariants as count
+use Rattle.ast.specs.declared.Attr.{Attr}
+use Rattle.ast.specs.declared.Attr.TheVariants.{Absent, Present}
 use Rattle.elf.specs.Strings.{add_strings, empty_table}
 use Rattle.elf.specs.Elf.{Section, Symbol, file}
 use Rattle.object.specs.Object.{declared_sections, symbols, table_section, symbol_section, object}
@@ -35,10 +33,10 @@ job =
     record {
       licence = ascii "GPL";
       maps =
-          record { name = ascii "m"; kind = Hash; key = type.Present U32; value = type.Absent; entries = count.Absent }
-          ∷ record { name = ascii "m"; kind = Array; key = type.Absent; value = type.Absent; entries = count.Present 4 }
-          ∷ record { name = ascii "a-b"; kind = Hash; key = type.Absent; value = type.Absent; entries = count.Absent }
-          ∷ record { name = ascii "a_b"; kind = Ringbuf; key = type.Absent; value = type.Absent; entries = count.Present 0 } ∷ [];
+          record { name = ascii "m"; kind = Hash; key = Present U32; value = Absent; entries = Absent }
+          ∷ record { name = ascii "m"; kind = Array; key = Absent; value = Absent; entries = Present 4 }
+          ∷ record { name = ascii "a-b"; kind = Hash; key = Absent; value = Absent; entries = Absent }
+          ∷ record { name = ascii "a_b"; kind = Ringbuf; key = Absent; value = Absent; entries = Present 0 } ∷ [];
       programs =
           record {
             section = ascii "x";
@@ -129,9 +127,9 @@ abbrev pub written_names : Writer
 written_names j = looked_up (λ r. last_of (numbers (λ m. equal (written r.map) (written m.name)) 0 j.maps)) j
 
 -- absent max_entries written as 0
-abbrev zero_entries : CountAttr → CountAttr
-zero_entries count.Absent = count.Present 0
-zero_entries (count.Present n) = count.Present n
+abbrev zero_entries : Attr ℕ → Attr ℕ
+zero_entries Absent = Present 0
+zero_entries (Present n) = Present n
 
 abbrev pub absent_as_zero : Writer
 absent_as_zero j =
@@ -188,13 +186,13 @@ type_shown U64 = 2
 type_shown I32 = 3
 type_shown I64 = 4
 
-abbrev attr_shown : TypeAttr → ℕ
-attr_shown type.Absent = 0
-attr_shown (type.Present t) = type_shown t
+abbrev attr_shown : Attr MemberType → ℕ
+attr_shown Absent = 0
+attr_shown (Present t) = type_shown t
 
-abbrev count_shown : CountAttr → List ℕ
-count_shown count.Absent = 0 ∷ []
-count_shown (count.Present n) = 1 ∷ n ∷ []
+abbrev count_shown : Attr ℕ → List ℕ
+count_shown Absent = 0 ∷ []
+count_shown (Present n) = 1 ∷ n ∷ []
 
 abbrev maps_shown : List Map → List ℕ
 maps_shown [] = []

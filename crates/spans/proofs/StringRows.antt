@@ -1,24 +1,21 @@
--- The strings of maps, from some map on: what the arms of a `match` leave, the invariant of the loop over the maps, and that all of them
--- are the table of the definition.
+-- The strings of maps, from some map on: the invariant of the loop over the maps, and that all of them are the table of the definition.
 use mathlib.Core.Path.{◌≡◌, refl, sym, ◌∙◌, ap}
 use mathlib.Core.List.{List, [], ◌∷◌, ◌++◌, append_assoc}
 use Prim.Native.Nat.{ℕ, ◌+◌, ◌-◌, ◌≤◌, ◌<◌}
 use native.Mathlib.Omega.{arith}
-use lib.ListN.{length, drop, get_or, length-append}
+use lib.ListN.{length, drop, get_or}
 use borrow.Rule.Slice.PartMut.{put_mid}
 use Rattle.octets.specs.Over.{over}
 use Rattle.octets.proofs.Filling.{over-part}
 use Rattle.octets.specs.Octets.{ascii}
-use Rattle.octets.proofs.Going.{Going, go_start, go_as, go_room, go_on, go_done, over_nothing}
+use Rattle.octets.proofs.Going.{Going, go_start, go_as, go_room, go_on, go_done}
 use Rattle.ast.specs.Job.{Map}
 use Rattle.ast.specs.declared.«Type».{«Type» as MemberType}
 use Rattle.ast.specs.declared.MapType.{MapType}
-use Rattle.ast.specs.declared.MapDecl.{MapDecl}
-use Rattle.ast.specs.declared.TypeAttr.{TypeAttr}
-use Rattle.ast.specs.declared.TypeAttr.TheVariants.{Absent, Present}
-use Rattle.ast.specs.declared.CountAttr.{CountAttr}
-use Rattle.ast.specs.declared.CountAttr.TheVariants as count
-use Rattle.object.specs.Read.{map_in}
+use Rattle.ast.specs.declared.NamedMap.{NamedMap}
+use Rattle.ast.specs.declared.Attr.{Attr}
+use Rattle.ast.specs.declared.Attr.TheVariants.{Absent, Present}
+use Rattle.object.specs.Read.{map_in, maps_in}
 use Rattle.object.specs.Tables.{no_map}
 use Rattle.elf.specs.Row.{joined}
 use Rattle.named.specs.There.{MapsThere}
@@ -27,87 +24,56 @@ use Rattle.btf.specs.Btf.{BtfType, start, add_types, datasec}
 use Rattle.btf.specs.Maps.{attributes, map_types, btf_types}
 use Rattle.btf.specs.Builder.{names_of}
 use Rattle.btf.proofs.Builder.{names_append, strings_built}
-use Rattle.members.specs.Section.{the_maps, one_map, types_of}
-use Rattle.members.specs.Strings.{type_name, count_name, map_strings, maps_strings, int_strings, all_strings}
+use Rattle.members.specs.Section.{one_map, types_of}
+use Rattle.members.specs.Strings.{map_strings, maps_strings, int_strings, all_strings}
 use Rattle.spans.proofs.TypeRows.{map_types_are}
 use Rattle.spans.proofs.AllTypes.{over-all}
 
--- ---- what the arms leave
-
-module _ (d out : List ℕ) (at r : ℕ) (attr : TypeAttr) (s : List ℕ) where
-  abbrev pub NameLeft : Type 0
-  NameLeft = (out ≡ over d at (type_name attr s)) × (r ≡ at + length (type_name attr s))
-
-  pub name_absent : attr ≡ Absent → out ≡ d → r ≡ at → NameLeft
-  name_absent e p q = rw e (p ∙ sym (over_nothing d at), omega arith)
-
-  pub name_present : (t : MemberType) → attr ≡ Present t → out ≡ over d at (s ++ (0 ∷ [])) → r ≡ at + length (s ++ (0 ∷ [])) → NameLeft
-  name_present t e p q = rw e (p, q)
-
-pub name_room : (at n : ℕ) (attr : TypeAttr) (s : List ℕ) (t : MemberType) → attr ≡ Present t → at + length (type_name attr s) ≤ n → at + length s + 1 ≤ n
-name_room at n attr s t e h =
-    let h' : at + length (s ++ (0 ∷ [])) ≤ n = rw e at h in
-    omega (arith, length-append s (0 ∷ []))
-
-module _ (d out : List ℕ) (at r : ℕ) (attr : CountAttr) where
-  abbrev pub CountNameLeft : Type 0
-  CountNameLeft = (out ≡ over d at (count_name attr)) × (r ≡ at + length (count_name attr))
-
-  pub count_name_absent : attr ≡ count.Absent → out ≡ d → r ≡ at → CountNameLeft
-  count_name_absent e p q = rw e (p ∙ sym (over_nothing d at), omega arith)
-
-  pub count_name_present : (n : ℕ) → attr ≡ count.Present n → out ≡ over d at (ascii "max_entries" ++ (0 ∷ [])) → r ≡ at + 12 → CountNameLeft
-  count_name_present n e p q = rw e (p, q)
-
-pub count_name_room : (at m : ℕ) (attr : CountAttr) (n : ℕ) → attr ≡ count.Present n → at + length (count_name attr) ≤ m → at + 12 ≤ m
-count_name_room at m attr n e h = rw e at h
-
 -- ---- all maps
 
-module _ (text : List ℕ) (maps : List MapDecl) (ats lens : List ℕ) (count : ℕ) where
+module _ (text : List ℕ) (ms : List NamedMap) where
   abbrev all : List Map
-  all = the_maps text maps ats lens count
+  all = maps_in text ms
 
   abbrev map_at : ℕ → Map
-  map_at i = map_in text (get_or maps i no_map) (get_or ats i 0) (get_or lens i 0)
+  map_at i = map_in text (get_or ms i no_map)
 
   -- the strings before map `i` are written
   pub record StringsTurn (start : ℕ) (out₀ out : List ℕ) (at i : ℕ) : Type 0 where
-    pub there : MapsThere text maps ats lens count
-    pub few : i ≤ count
+    pub there : MapsThere text ms
     pub going : Going out₀ start (maps_strings all) out at (maps_strings (drop i all))
 
-  pub strings-start : (at : ℕ) (out : List ℕ) → MapsThere text maps ats lens count → at + length (maps_strings all) ≤ length out → StringsTurn at out out at 0
-  strings-start at out m h = record { there = m; few = omega arith; going = go_start out at (maps_strings all) h }
+  pub strings-start : (at : ℕ) (out : List ℕ) → MapsThere text ms → at + length (maps_strings all) ≤ length out → StringsTurn at out out at 0
+  strings-start at out m h = record { there = m; going = go_start out at (maps_strings all) h }
 
-  module _ {start at i : ℕ} {out₀ out : List ℕ} (t : StringsTurn start out₀ out at i) (h : i < count) where
+  module _ {start at i : ℕ} {out₀ out : List ℕ} (t : StringsTurn start out₀ out at i) (h : i < length ms) where
     here_on : Going out₀ start (maps_strings all) out at (map_strings (map_at i) ++ maps_strings (drop (i + 1) all))
-    here_on = go_as (map_strings (map_at i) ++ maps_strings (drop (i + 1) all)) (ap maps_strings (maps_from text maps ats lens count i t.there h)) t.going
+    here_on = go_as (map_strings (map_at i) ++ maps_strings (drop (i + 1) all)) (ap maps_strings (maps_from text ms i h)) t.going
 
     pub strings_room : at + length (map_strings (map_at i)) ≤ length out
     strings_room = go_room (map_strings (map_at i)) (maps_strings (drop (i + 1) all)) here_on
 
     pub strings_on : (out' : List ℕ) (at' : ℕ) → out' ≡ over out at (map_strings (map_at i)) → at' ≡ at + length (map_strings (map_at i)) → StringsTurn start out₀ out' at' (i + 1)
     strings_on out' at' e n =
-        record { there = t.there; few = omega arith; going = go_on (map_strings (map_at i)) (maps_strings (drop (i + 1) all)) out' at' here_on e n }
+        record { there = t.there; going = go_on (map_strings (map_at i)) (maps_strings (drop (i + 1) all)) out' at' here_on e n }
 
-  pub strings-done : {start at i : ℕ} {out₀ out : List ℕ} → StringsTurn start out₀ out at i → count ≤ i
+  pub strings-done : {start at i : ℕ} {out₀ out : List ℕ} → StringsTurn start out₀ out at i → length ms ≤ i
       → (out ≡ over out₀ start (maps_strings all)) × (at ≡ start + length (maps_strings all))
-  strings-done {i = i} t h = go_done (go_as [] (ap maps_strings (maps_end text maps ats lens count i h)) t.going)
+  strings-done {i = i} t h = go_done (go_as [] (ap maps_strings (maps_end text ms i h)) t.going)
 
 -- ---- the table
 
-joined_case : (next : ℕ) (name : List ℕ) (names : List (List ℕ)) (kind : MapType) (key value : TypeAttr) (entries : CountAttr) →
+joined_case : (next : ℕ) (name : List ℕ) (names : List (List ℕ)) (kind : MapType) (key value : Attr MemberType) (entries : Attr ℕ) →
     let m : Map = record { name = name; kind = kind; key = key; value = value; entries = entries } in
     joined (names_of (one_map next m) ++ names) ≡ map_strings m ++ joined names
-joined_case next name names kind Absent Absent count.Absent = refl
-joined_case next name names kind Absent Absent (count.Present n) = refl
-joined_case next name names kind Absent (Present u) count.Absent = refl
-joined_case next name names kind Absent (Present u) (count.Present n) = refl
-joined_case next name names kind (Present t) Absent count.Absent = refl
-joined_case next name names kind (Present t) Absent (count.Present n) = refl
-joined_case next name names kind (Present t) (Present u) count.Absent = refl
-joined_case next name names kind (Present t) (Present u) (count.Present n) = refl
+joined_case next name names kind Absent Absent Absent = refl
+joined_case next name names kind Absent Absent (Present n) = refl
+joined_case next name names kind Absent (Present u) Absent = refl
+joined_case next name names kind Absent (Present u) (Present n) = refl
+joined_case next name names kind (Present t) Absent Absent = refl
+joined_case next name names kind (Present t) Absent (Present n) = refl
+joined_case next name names kind (Present t) (Present u) Absent = refl
+joined_case next name names kind (Present t) (Present u) (Present n) = refl
 
 joined_maps : (next : ℕ) (ms : List Map) (names : List (List ℕ)) → joined (names_of (types_of next ms) ++ names) ≡ maps_strings ms ++ joined names
 joined_maps next [] names = refl

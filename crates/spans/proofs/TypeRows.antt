@@ -8,7 +8,8 @@ use Rattle.octets.specs.Over.{over}
 use Rattle.written.specs.Written.{written}
 use Rattle.ast.specs.Job.{Map}
 use Rattle.ast.specs.declared.MapDecl.{MapDecl}
-use Rattle.object.specs.Read.{map_in}
+use Rattle.ast.specs.declared.NamedMap.{NamedMap}
+use Rattle.object.specs.Read.{map_in, maps_in}
 use Rattle.object.specs.Tables.{no_map}
 use Rattle.named.specs.There.{MapsThere}
 use Rattle.named.proofs.Names.{written_most}
@@ -19,7 +20,7 @@ use Rattle.btf.specs.Maps.{attributes, map_size, map_types}
 use Rattle.btf.specs.Btf.{struct, var}
 use Rattle.btf.specs.Builder.{moved, bytes_at, past, Within}
 use Rattle.btf.proofs.Builder.{bytes_append, past-append}
-use Rattle.members.specs.Section.{the_maps, one_map, types_of, map_built, maps_built}
+use Rattle.members.specs.Section.{one_map, types_of, map_built, maps_built}
 use Rattle.members.proofs.Stages.{Stage, stage_start, stage_as, stage_within, stage_on, stage_done}
 use Rattle.members.proofs.OneMap.{as_map, struct_end_lem, map_strings_lem, map_next}
 
@@ -39,31 +40,31 @@ map_grows b d name h =
     let e = struct_end_lem b d in
     (omega (arith, e.strings, map_strings_lem b d name), omega (arith, e.next, map_next b d name))
 
-module _ (text : List ℕ) (maps : List MapDecl) (ats lens : List ℕ) (count : ℕ) where
+module _ (text : List ℕ) (ms : List NamedMap) where
   abbrev map_at : ℕ → Map
-  map_at i = map_in text (get_or maps i no_map) (get_or ats i 0) (get_or lens i 0)
+  map_at i = map_in text (get_or ms i no_map)
 
   abbrev rest_at : BtfBuilder → ℕ → List ℕ
-  rest_at b i = bytes_at b.strings (types_of b.next_type_id (drop i (the_maps text maps ats lens count)))
+  rest_at b i = bytes_at b.strings (types_of b.next_type_id (drop i (maps_in text ms)))
 
   -- the types before map `i` are written, and the builder is `b`
   pub record TypesTurn (b₀ : BtfBuilder) (out₀ out : List ℕ) (b : BtfBuilder) (i : ℕ) : Type 0 where
-    pub there : MapsThere text maps ats lens count
-    pub few : i ≤ count
-    pub stage : Stage out₀ b₀.at (rest_at b₀ 0) out b (rest_at b i) (92 * (count - i)) (8 * (count - i))
+    pub there : MapsThere text ms
+    pub few : i ≤ length ms
+    pub stage : Stage out₀ b₀.at (rest_at b₀ 0) out b (rest_at b i) (92 * (length ms - i)) (8 * (length ms - i))
     pub strings_small : b.strings ≤ b₀.strings + 92 * i
     pub next_small : b.next_type_id ≤ b₀.next_type_id + 8 * i
-    pub built : maps_built b₀ (the_maps text maps ats lens count) ≡ maps_built b (drop i (the_maps text maps ats lens count))
+    pub built : maps_built b₀ (maps_in text ms) ≡ maps_built b (drop i (maps_in text ms))
 
-  pub types_start : (b : BtfBuilder) (out : List ℕ) → MapsThere text maps ats lens count → Within (moved b (length (rest_at b 0)) (92 * count) (8 * count)) (length out)
+  pub types_start : (b : BtfBuilder) (out : List ℕ) → MapsThere text ms → Within (moved b (length (rest_at b 0)) (92 * length ms) (8 * length ms)) (length out)
       → TypesTurn b out out b 0
   types_start b out m w =
-      record { there = m; few = omega arith; stage = stage_start out (rest_at b 0) b (92 * (count - 0)) (8 * (count - 0)) within; strings_small = omega arith; next_small = omega arith; built = refl }
+      record { there = m; few = omega arith; stage = stage_start out (rest_at b 0) b (92 * (length ms - 0)) (8 * (length ms - 0)) within; strings_small = omega arith; next_small = omega arith; built = refl }
     where
-      within : Within (moved b (length (rest_at b 0)) (92 * (count - 0)) (8 * (count - 0))) (length out)
+      within : Within (moved b (length (rest_at b 0)) (92 * (length ms - 0)) (8 * (length ms - 0))) (length out)
       within = record { at = w.at; strings = omega (arith, w.strings); next = omega (arith, w.next) }
 
-  module _ {b₀ : BtfBuilder} {out₀ out : List ℕ} {b : BtfBuilder} {i : ℕ} (t : TypesTurn b₀ out₀ out b i) (h : i < count) where
+  module _ {b₀ : BtfBuilder} {out₀ out : List ℕ} {b : BtfBuilder} {i : ℕ} (t : TypesTurn b₀ out₀ out b i) (h : i < length ms) where
     abbrev here : List ℕ
     here = bytes_at b.strings (one_map b.next_type_id (map_at i))
 
@@ -72,34 +73,34 @@ module _ (text : List ℕ) (maps : List MapDecl) (ats lens : List ℕ) (count : 
 
     rest_is : rest_at b i ≡ here ++ behind
     rest_is =
-        ap (λ (ms : List Map). bytes_at b.strings (types_of b.next_type_id ms)) (maps_from text maps ats lens count i t.there h)
+        ap (λ (ms : List Map). bytes_at b.strings (types_of b.next_type_id ms)) (maps_from text ms i h)
         ∙ bytes_append b.strings (one_map b.next_type_id (map_at i))
-        (types_of ((attributes b.next_type_id (map_at i)).next + 2) (drop (i + 1) (the_maps text maps ats lens count)))
+        (types_of ((attributes b.next_type_id (map_at i)).next + 2) (drop (i + 1) (maps_in text ms)))
 
     pub types_room : Within (moved b (length here) 92 8) (length out)
     types_room = stage_within here behind 92 8 (stage_as (here ++ behind) rest_is t.stage) (omega arith) (omega arith)
 
     pub types_on : (out' : List ℕ) (b' : BtfBuilder) → out' ≡ over out b.at here → b' ≡ map_built b (map_at i) → TypesTurn b₀ out₀ out' b' (i + 1)
     types_on out' b' e q =
-        let short = written_most text (record { at = get_or ats i 0; len = get_or lens i 0 }) (t.there.names.named i h) in
-        let g = map_grows b (get_or maps i no_map) (map_at i).name short in
+        let short = written_most text (get_or ms i no_map).name (t.there.named i h) in
+        let g = map_grows b (get_or ms i no_map).decl (map_at i).name short in
         rw q
         (record {
           there = t.there;
           few = omega arith;
           stage =
-              stage_on here behind out' (map_built b (map_at i)) (92 * (count - (i + 1))) (8 * (count - (i + 1)))
+              stage_on here behind out' (map_built b (map_at i)) (92 * (length ms - (i + 1))) (8 * (length ms - (i + 1)))
               (stage_as (here ++ behind) rest_is t.stage) e refl (omega (arith, g.0)) (omega (arith, g.1));
           strings_small = omega (arith, g.0, t.strings_small);
           next_small = omega (arith, g.1, t.next_small);
-          built = t.built ∙ ap (λ (ms : List Map). maps_built b ms) (maps_from text maps ats lens count i t.there h);
+          built = t.built ∙ ap (λ (ms : List Map). maps_built b ms) (maps_from text ms i h);
         })
 
-  pub types_done : {b₀ : BtfBuilder} {out₀ out : List ℕ} {b : BtfBuilder} {i : ℕ} → TypesTurn b₀ out₀ out b i → count ≤ i
-      → (out ≡ over out₀ b₀.at (rest_at b₀ 0)) × (b ≡ maps_built b₀ (the_maps text maps ats lens count))
-      × (b.strings ≤ b₀.strings + 92 * count) × (b.next_type_id ≤ b₀.next_type_id + 8 * count)
+  pub types_done : {b₀ : BtfBuilder} {out₀ out : List ℕ} {b : BtfBuilder} {i : ℕ} → TypesTurn b₀ out₀ out b i → length ms ≤ i
+      → (out ≡ over out₀ b₀.at (rest_at b₀ 0)) × (b ≡ maps_built b₀ (maps_in text ms))
+      × (b.strings ≤ b₀.strings + 92 * length ms) × (b.next_type_id ≤ b₀.next_type_id + 8 * length ms)
   types_done {b = b} {i = i} t h =
-      let e = maps_end text maps ats lens count i h in (
+      let e = maps_end text ms i h in (
         stage_done (stage_as [] (ap (λ (ms : List Map). bytes_at b.strings (types_of b.next_type_id ms)) e) t.stage),
         sym (t.built ∙ ap (λ (ms : List Map). maps_built b ms) e),
         omega (arith, t.strings_small, t.few),

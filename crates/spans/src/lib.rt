@@ -1,51 +1,40 @@
 // How much room maps take: in `.maps`, and in the types and the strings of `.BTF`.
 #![tactic(auto)]
 
-ghost use Rattle.std.specs.Prelude.{◌≡◌, ◌+◌, ◌*◌, ◌≤◌, ◌<◌, length, take};
-ghost use Rattle.btf.specs.Maps.{type_count, btf_types};
+ghost use Rattle.std.specs.Prelude.{◌≡◌, ◌+◌, ◌*◌, ◌≤◌, ◌<◌, length};
+ghost use Rattle.btf.specs.Maps.{btf_types};
 ghost use Rattle.btf.specs.Btf.{start, add_types};
-ghost use Rattle.members.specs.Section.{the_maps, rooms_of, count_ids, span_of};
+ghost use Rattle.members.specs.Section.{rooms_of, attr_ids, span_of};
+ghost use Rattle.object.specs.Read.{maps_in};
 ghost use Rattle.named.specs.There.{MapsThere};
 ghost use Rattle.members.specs.Strings.{attr_names};
 
-use ast::{CountAttr, MapDecl, Name, TypeAttr};
+use ast::{Attr, MapDecl, NamedMap};
 use btf::{BtfBuilder, BtfIntIds};
 use elf::Section;
-use object::BpfObject;
+use members::InBtf;
 
 // The size of `.maps`: the room of the maps one after the other.
-pub fn maps_size(maps: [MapDecl; BpfObject::MAPS], count: usize) -> usize
-    requires { (count ≤ 64) × (length maps ≡ 64) }
-    ensures value { result ≡ rooms_of (take count maps) }
-    ensures upper_bound { result ≤ 32 * count }
+pub fn maps_size(maps: &[NamedMap]) -> usize
+    requires { length maps.now ≤ 64 }
+    ensures value { result ≡ rooms_of maps.now }
+    ensures upper_bound { result ≤ 32 * length maps.now }
 {
     let mut size: usize = 0;
-    let mut i = 0;
-    while i < count {
-        size += btf::btf_map_size(maps[i]) as usize;
-        i += 1;
+    for map in maps {
+        size += btf::btf_map_size(map.decl) as usize;
     }
     size
 }
 
-// How many types a key or a value has, and a number of entries.
-pub fn type_ids(attr: TypeAttr) -> u32
-    ensures value { result ≡ type_count attr }
-    ensures upper_bound { result ≤ 1 }
+// How many types an attribute has: none if it is absent.
+pub fn attr_ids<T: InBtf>(attr: Attr<T>) -> u32
+    ensures value { result ≡ attr_ids T.IDS attr }
+    ensures upper_bound { result ≤ T.IDS }
 {
     match attr {
-        TypeAttr::Absent => 0,
-        TypeAttr::Present(_) => 1,
-    }
-}
-
-pub fn count_ids(attr: CountAttr) -> u32
-    ensures value { result ≡ count_ids attr }
-    ensures upper_bound { result ≤ 2 }
-{
-    match attr {
-        CountAttr::Absent => 0,
-        CountAttr::Present(_) => BtfBuilder::NUMBER_IDS,
+        Attr::Absent => 0,
+        Attr::Present(_) => T::IDS,
     }
 }
 
@@ -91,9 +80,10 @@ fn map_span(map: MapDecl) -> usize
     ensures value { result ≡ span_of map }
     ensures upper_bound { result ≤ 184 }
 {
-    let entries = map.max_entries;
     let room = btf::btf_map_size(map) as usize;
-    BtfSize::ATTRIBUTE * room + BtfSize::MAP + BtfSize::ENTRIES * (count_ids(entries) as usize)
+    BtfSize::ATTRIBUTE * room
+        + BtfSize::MAP
+        + BtfSize::ENTRIES * (attr_ids(map.max_entries) as usize)
 }
 
 // How many bytes the names of a map's members take.
@@ -101,41 +91,25 @@ fn names_span(map: MapDecl) -> usize
     ensures value { result ≡ length (attr_names map.key_type map.value_type map.max_entries) }
     ensures upper_bound { result ≤ 27 }
 {
-    let key = map.key_type;
-    let value = map.value_type;
-    let entries = map.max_entries;
     let mut span = BtfSize::TYPE_NAME;
-    span += BtfSize::KEY_NAME * (type_ids(key) as usize);
-    span += BtfSize::VALUE_NAME * (type_ids(value) as usize);
-    span += BtfSize::ENTRIES_NAME * (count_ids(entries) as usize);
+    span += BtfSize::KEY_NAME * (attr_ids(map.key_type) as usize);
+    span += BtfSize::VALUE_NAME * (attr_ids(map.value_type) as usize);
+    span += BtfSize::ENTRIES_NAME * (attr_ids(map.max_entries) as usize);
     span
 }
 
 // The same for a job's maps: 92 and 27 without any map.
-pub fn btf_size<'a>(
-    text: &[u8],
-    maps: [MapDecl; BpfObject::MAPS],
-    ats: &'a [u16],
-    lens: &'a [u16],
-    count: usize,
-) -> BtfSize
-    requires { MapsThere text.now maps ats.now lens.now count }
-    ensures types_value { result.types ≡ length (add_types (btf_types (the_maps text.now maps ats.now lens.now count)) start).types }
-    ensures strings_value { result.strings ≡ length (add_types (btf_types (the_maps text.now maps ats.now lens.now count)) start).strings }
+pub fn btf_size(text: &[u8], maps: &[NamedMap]) -> BtfSize
+    requires { MapsThere text.now maps.now }
+    ensures types_value { result.types ≡ length (add_types (btf_types (maps_in text.now maps.now)) start).types }
+    ensures strings_value { result.strings ≡ length (add_types (btf_types (maps_in text.now maps.now)) start).strings }
     ensures strings_bound { result.types + result.strings ≤ 65535 }
 {
     let mut types = BtfSize::TYPES;
     let mut strings = BtfSize::STRINGS;
-    let mut i = 0;
-    while i < count {
-        let map = maps[i];
-        let name = Name {
-            at: ats[i],
-            len: lens[i],
-        };
-        types += map_span(map);
-        strings += names_span(map) + (named::written_size(text, name) + 1);
-        i += 1;
+    for map in maps {
+        types += map_span(map.decl);
+        strings += names_span(map.decl) + (named::written_size(text, map.name) + 1);
     }
     BtfSize { types, strings }
 }

@@ -7,12 +7,15 @@ use lib.ListN.{length, take, length-append}
 use lib.Seq.{length-take-le}
 use lib.Dec.{eqb-suc-zero}
 use borrow.Rule.Slice.PartMut.{put_mid}
-use Rattle.octets.specs.Octets.{ascii}
+use Rattle.octets.specs.Octets.{zeros, ascii}
 use Rattle.octets.specs.Over.{over}
 use Rattle.octets.proofs.Filling.{Filling, fill_start, fill_as, fill_on, fill_done, over-part}
 use Rattle.written.specs.Written.{written}
 use Rattle.ast.specs.Job.{Map, Relocation}
-use Rattle.ast.specs.declared.MapDecl.{MapDecl}
+use Rattle.ast.specs.declared.NamedMap.{NamedMap}
+use Rattle.std.specs.Prelude.{Option}
+use Rattle.std.specs.List.{All}
+use Rattle.std.proofs.lemmas.List.Elements.{All-from_get_or}
 use Rattle.elf.specs.Strings.{empty_table}
 use Rattle.elf.specs.Elf.{Symbol, symbol_bytes, symbols_bytes, symbol_info, entry_bytes, null_entry}
 use Rattle.elf.specs.Row.{size_of, joined}
@@ -21,15 +24,16 @@ use Rattle.btf.specs.Maps.{map_size}
 use Rattle.object.specs.declared.Slot.{Slot}
 use Rattle.object.specs.declared.Program.{Program}
 use Rattle.object.specs.declared.BpfObject.{BpfObject}
-use Rattle.object.specs.Read.{bytes_at, name_in, map_in, licence_in, maps_in, program_in, programs_in, declared_maps, job_in}
-use Rattle.object.specs.Kept.{Kept, AllKept}
+use Rattle.object.specs.Read.{name_in, map_in, licence_in, maps_in, program_in, programs_in, declared_maps, job_in}
+use Rattle.object.specs.Kept.{Named, Kept, AllKept}
+use Rattle.object.specs.Tables.{no_map, no_program}
 use Rattle.object.specs.Object.{past, map_symbols, program_symbols, first_program, symbols}
 use Rattle.object.proofs.Read.{count_maps}
 use Rattle.object.proofs.Counts.{count_map_symbols}
 use Rattle.object.proofs.Programs.{kept_more}
 use Rattle.object.proofs.Slots.{AllCounted, all_counted}
-use Rattle.named.specs.There.{Lent}
-use Rattle.strtab.specs.Rows.{row_at, row_size, map_row, behind, first_of, program_row, names_in, program_names, symtab_of, strtab_of, ProgramsThere}
+use Rattle.named.proofs.There.{kept_program}
+use Rattle.strtab.specs.Rows.{row_at, row_size, map_row, behind, first_of, program_row, names_in, symtab_of, strtab_of, ProgramsThere}
 use Rattle.strtab.proofs.Rows.{row_is, row_length, length_programs}
 
 -- ---- rows
@@ -53,39 +57,43 @@ past_of at (r ∷ rs) = rw (eqb-suc-zero (length rs))
 
 -- ---- programs
 
-program_row_lem : (text : List ℕ) (slots : List Slot) (at n : ℕ) (ps : List Program) → AllCounted text slots ps → AllKept text n ps
+program_row_lem : (text : List ℕ) (slots : List (Option Slot)) (at n : ℕ) (ps : List Program) → AllCounted text slots ps → AllKept text n ps
     → program_symbols at (programs_in text slots ps) ≡ program_row text at ps
 program_row_lem text slots at n [] c k = refl
 program_row_lem text slots at n (p ∷ ps) c k =
     rw (past_of at (program_in text slots p).relocations, c.0, k.0.code)
     (ap (λ (r : List Symbol). record { name = written (name_in text p.symbol); info = symbol_info 1 2; section = at; at = 0; size = p.code_len } ∷ r) (program_row_lem text slots (behind p.relocs at) n ps c.1 k.1))
 
-program_names_lem : (text : List ℕ) (at : ℕ) (ps : List Program) → map (λ s. s.name) (program_row text at ps) ≡ program_names text ps
+program_names_lem : (text : List ℕ) (at : ℕ) (ps : List Program) → map (λ s. s.name) (program_row text at ps) ≡ names_in (λ p. p.symbol) text ps
 program_names_lem text at [] = refl
 program_names_lem text at (p ∷ ps) = ap (λ (r : List (List ℕ)). written (name_in text p.symbol) ∷ r) (program_names_lem text (behind p.relocs at) ps)
 
-map_names_lem : (text : List ℕ) (at : ℕ) (ds : List MapDecl) (ats lens : List ℕ) → length ats ≡ length ds → length lens ≡ length ds
-    → map (λ s. s.name) (map_symbols at (maps_in text ds ats lens)) ≡ names_in text ats lens
-map_names_lem text at [] [] lens p q = refl
-map_names_lem text at [] (a ∷ ats) lens p q = absurd (omega arith)
-map_names_lem text at (d ∷ ds) [] lens p q = absurd (omega arith)
-map_names_lem text at (d ∷ ds) (a ∷ ats) [] p q = absurd (omega arith)
-map_names_lem text at (d ∷ ds) (a ∷ ats) (l ∷ lens) p q =
-    ap (λ (r : List (List ℕ)). written (bytes_at text a l) ∷ r) (map_names_lem text (at + map_size (map_in text d a l)) ds ats lens (omega arith) (omega arith))
+map_names_lem : (text : List ℕ) (at : ℕ) (ms : List NamedMap) → map (λ s. s.name) (map_symbols at (maps_in text ms)) ≡ names_in (λ m. m.name) text ms
+map_names_lem text at [] = refl
+map_names_lem text at (m ∷ ms) = ap (λ (r : List (List ℕ)). written (name_in text m.name) ∷ r) (map_names_lem text (at + map_size (map_in text m)) ms)
 
 -- ---- the tables of an accepted job
 
 module _ (text : List ℕ) (o : BpfObject) (k : Kept text o) where
-  pub programs_there : ProgramsThere text o.programs o.program_count
+  pub programs_there : ProgramsThere text (take o.program_count o.programs)
   programs_there =
+      let s = k.sound in
+      let n = length-take-le o.program_count o.programs (omega (arith, s.programs, s.few_programs)) in
       record {
-        few = k.sound.few_programs;
-        long = k.sound.programs;
-        kept = kept_more text o.reloc_count 256 (take o.program_count o.programs) k.sound.few_slots k.programs;
+        few = omega (arith, n, s.few_programs);
+        kept = kept_more text o.reloc_count 256 (take o.program_count o.programs) s.few_slots k.programs;
       }
 
+  pub maps_named : All (λ m. Named text m.name) (take o.map_count o.maps)
+  maps_named = All-from_get_or (λ m. Named text m.name) (take o.map_count o.maps) no_map k.maps
+
+  pub symbols_named : All (λ p. Named text p.symbol) (take o.program_count o.programs)
+  symbols_named =
+      let ps = take o.program_count o.programs in
+      All-from_get_or (λ p. Named text p.symbol) ps no_program (λ i h. (kept_program text o.reloc_count ps i h k.programs).symbol)
+
   abbrev mapped : List Symbol
-  mapped = map_row text o.maps o.map_at o.map_len o.map_count
+  mapped = map_row text (take o.map_count o.maps)
 
   abbrev programmed : List Symbol
   programmed = program_row text (first_of o.map_count) (take o.program_count o.programs)
@@ -94,8 +102,7 @@ module _ (text : List ℕ) (o : BpfObject) (k : Kept text o) where
   licence = record { name = ascii "LICENSE"; info = symbol_info 1 1; section = 1; at = 0; size = length (licence_in text o.license) + 1 }
 
   pub count_declared : length (declared_maps text o) ≡ o.map_count
-  count_declared =
-      count_maps text o.maps o.map_at o.map_len o.map_count (omega (arith, k.sound)) (omega (arith, k.sound)) (omega (arith, k.sound))
+  count_declared = count_maps text o.maps o.map_count (omega (arith, k.sound))
 
   pub symbols_are : symbols (job_in text o) ≡ record { name = []; info = 0; section = 0; at = 0; size = 0 } ∷ licence ∷ mapped ++ programmed
   symbols_are =
@@ -112,21 +119,18 @@ module _ (text : List ℕ) (o : BpfObject) (k : Kept text o) where
       ∙ ap (λ (r : List ℕ). entry_bytes null_entry ++ (symbol_bytes 2 licence ++ r)) (row_append 10 mapped programmed ∙ ap (λ (r : List ℕ). row_at 10 mapped ++ r) (sym (append-nil _)))
 
   abbrev pub map_names : List (List ℕ)
-  map_names = names_in text (take o.map_count o.map_at) (take o.map_count o.map_len)
+  map_names = names_in (λ m. m.name) text (take o.map_count o.maps)
 
   abbrev pub program_named : List (List ℕ)
-  program_named = program_names text (take o.program_count o.programs)
+  program_named = names_in (λ p. p.symbol) text (take o.program_count o.programs)
 
   pub names_are : map (λ s. s.name) (symbols (job_in text o)) ≡ [] ∷ ascii "LICENSE" ∷ map_names ++ program_named
   names_are =
-      let n = o.map_count in
-      let d = length-take-le n o.maps (omega (arith, k.sound)) in
-      let a = length-take-le n o.map_at (omega (arith, k.sound)) in
-      let l = length-take-le n o.map_len (omega (arith, k.sound)) in
+      let first = first_of o.map_count in
       ap (map (λ s. s.name)) symbols_are
       ∙ ap (λ (r : List (List ℕ)). [] ∷ ascii "LICENSE" ∷ r)
       (map-append (λ s. s.name) mapped programmed
-      ∙ rw (map_names_lem text 0 (take n o.maps) (take n o.map_at) (take n o.map_len) (a ∙ sym d) (l ∙ sym d), program_names_lem text (first_of n) (take o.program_count o.programs)))
+      ∙ rw (map_names_lem text 0 (take o.map_count o.maps), program_names_lem text first (take o.program_count o.programs)))
 
   pub strtab_is : strtab_of (job_in text o) ≡ (0 ∷ 0 ∷ []) ++ ((ascii "LICENSE" ++ (0 ∷ [])) ++ (joined map_names ++ (joined program_named ++ [])))
   strtab_is =
@@ -142,12 +146,15 @@ module _ (text : List ℕ) (o : BpfObject) (k : Kept text o) where
   abbrev after_zeros : List ℕ
   after_zeros = (ascii "LICENSE" ++ (0 ∷ [])) ++ (joined map_names ++ (joined program_named ++ []))
 
-  abbrev after_licence : List ℕ
+  abbrev pub after_licence : List ℕ
   after_licence = joined map_names ++ (joined program_named ++ [])
 
-  pub strings-zeros : (out l : List ℕ) → length out ≡ length (strtab_of (job_in text o)) → l ≡ 0 ∷ 0 ∷ [] → Filling (strtab_of (job_in text o)) (put_mid 0 (2 - 0) out l) 2 after_zeros
+  pub strings-zeros : (out l : List ℕ) → length out ≡ length (strtab_of (job_in text o)) → l ≡ zeros (length (take 2 out))
+      → Filling (strtab_of (job_in text o)) (put_mid 0 (2 - 0) out l) 2 after_zeros
   strings-zeros out l e q =
-      fill_on (0 ∷ 0 ∷ []) after_zeros (put_mid 0 (2 - 0) out l) 2 (fill_as _ strtab_is (fill_start (strtab_of (job_in text o)) out e)) (over-part out 0 2 l (0 ∷ 0 ∷ []) refl q) refl
+      let two : length (take 2 out) ≡ 2 = length-take-le 2 out (omega (arith, strtab_long)) in
+      fill_on (0 ∷ 0 ∷ []) after_zeros (put_mid 0 (2 - 0) out l) 2 (fill_as _ strtab_is (fill_start (strtab_of (job_in text o)) out e))
+      (over-part out 0 2 l (0 ∷ 0 ∷ []) refl (q ∙ ap zeros two)) refl
 
   pub strings_licence : (out out' : List ℕ) → Filling (strtab_of (job_in text o)) out 2 after_zeros → out' ≡ over out 2 (ascii "LICENSE" ++ (0 ∷ []))
       → Filling (strtab_of (job_in text o)) out' 10 after_licence
@@ -210,12 +217,3 @@ module _ (text : List ℕ) (o : BpfObject) (k : Kept text o) where
         n,
         m,
       )
-
--- the places of the names that are lent are those of the tables
-pub lent_same : {text : List ℕ} {o : BpfObject} {ats lens : List ℕ} (n : ℕ) → Lent text o ats lens
-    → names_in text (take n ats) (take n lens) ≡ names_in text (take n o.map_at) (take n o.map_len)
-lent_same n l = rw (l.ats_are, l.lens_are)
-
-pub lent_row : {text : List ℕ} {o : BpfObject} {ats lens : List ℕ} → Lent text o ats lens
-    → map_row text o.maps ats lens o.map_count ≡ map_row text o.maps o.map_at o.map_len o.map_count
-lent_row l = rw (l.ats_are, l.lens_are)

@@ -1,12 +1,13 @@
 -- Rows of symbols with their names one after the other, as `.symtab` and `.strtab` have them, and the symbols of the tables.
-use Rattle.std.specs.Prelude.{cond, List, [], ◌∷◌, ◌++◌, map, ◌≡◌, ℕ, suc, ◌+◌, ◌≤◌, length, take, eqb}
+use Rattle.std.specs.Prelude.{cond, List, [], ◌∷◌, ◌++◌, map, ℕ, suc, ◌+◌, ◌≤◌, length, eqb}
 use Rattle.written.specs.Written.{written}
 use Rattle.ast.specs.Job.{Job}
-use Rattle.ast.specs.declared.MapDecl.{MapDecl}
+use Rattle.ast.specs.declared.Name.{Name}
+use Rattle.ast.specs.declared.NamedMap.{NamedMap}
 use Rattle.elf.specs.Strings.{add_strings, empty_table}
 use Rattle.elf.specs.Elf.{Symbol, symbol_info, symbol_bytes, symbols_bytes}
 use Rattle.object.specs.declared.Program.{Program}
-use Rattle.object.specs.Read.{bytes_at, name_in, maps_in}
+use Rattle.object.specs.Read.{name_in, maps_in}
 use Rattle.object.specs.Kept.{AllKept}
 use Rattle.object.specs.Object.{map_symbols, symbols}
 
@@ -20,9 +21,9 @@ abbrev pub row_size : List Symbol → ℕ
 row_size [] = 0
 row_size (s ∷ ss) = suc (length s.name) + row_size ss
 
--- the symbols of the first `n` maps of the tables
-abbrev pub map_row : List ℕ → List MapDecl → List ℕ → List ℕ → ℕ → List Symbol
-map_row text ds ats lens n = map_symbols 0 (maps_in text (take n ds) (take n ats) (take n lens))
+-- the symbols of maps of the tables
+abbrev pub map_row : List ℕ → List NamedMap → List Symbol
+map_row text ms = map_symbols 0 (maps_in text ms)
 
 -- the number of the section after a program's, which has a REL section if it has relocations
 abbrev pub behind : ℕ → ℕ → ℕ
@@ -39,15 +40,10 @@ program_row text at (p ∷ ps) =
     record { name = written (name_in text p.symbol); info = symbol_info 1 2; section = at; at = 0; size = p.code_len }
     ∷ program_row text (behind p.relocs at) ps
 
--- the written names of maps and of programs of the tables
-abbrev pub names_in : List ℕ → List ℕ → List ℕ → List (List ℕ)
-names_in text [] lens = []
-names_in text (a ∷ ats) [] = []
-names_in text (a ∷ ats) (l ∷ lens) = written (bytes_at text a l) ∷ names_in text ats lens
-
-abbrev pub program_names : List ℕ → List Program → List (List ℕ)
-program_names text [] = []
-program_names text (p ∷ ps) = written (name_in text p.symbol) ∷ program_names text ps
+-- the written names of the symbols of a row of maps or of programs; `symbol` says which name of one that is
+abbrev pub names_in : {T : Type 0} → (T → Name) → List ℕ → List T → List (List ℕ)
+names_in symbol text [] = []
+names_in symbol text (x ∷ xs) = written (name_in text (symbol x)) ∷ names_in symbol text xs
 
 -- what `.symtab` and `.strtab` of a job hold
 abbrev pub symtab_of : Job → List ℕ
@@ -56,8 +52,7 @@ symtab_of j = symbols_bytes (add_strings empty_table (map (λ s. s.name) (symbol
 abbrev pub strtab_of : Job → List ℕ
 strtab_of j = (add_strings empty_table (map (λ s. s.name) (symbols j))).table
 
--- what is known of the programs' table
-pub record ProgramsThere (text : List ℕ) (ps : List Program) (count : ℕ) : Type 0 where
-  pub few : count ≤ 32
-  pub long : length ps ≡ 32
-  pub kept : AllKept text 256 (take count ps)
+-- what is known of the programs of an accepted job: there are at most 32, and each one's names, code and slots are there
+pub record ProgramsThere (text : List ℕ) (ps : List Program) : Type 0 where
+  pub few : length ps ≤ 32
+  pub kept : AllKept text 256 ps

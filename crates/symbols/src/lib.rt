@@ -1,37 +1,30 @@
 // `.symtab`: the null symbol, LICENSE, the maps and the programs. Crate strtab writes their names, in the same order.
 #![tactic(auto)]
 
-ghost use Rattle.std.specs.Prelude.{◌≡◌, ◌+◌, ◌*◌, ◌≤◌, length, take};
+ghost use Rattle.std.specs.Prelude.{◌≡◌, ◌+◌, ◌*◌, ◌≤◌, length};
 ghost use Rattle.octets.specs.Over.{over};
-ghost use Rattle.named.specs.There.{MapsThere, Lent};
 ghost use Rattle.object.specs.Read.{licence_in, job_in};
+ghost use Rattle.object.specs.Kept.{Kept};
+ghost use Rattle.named.specs.There.{MapsThere};
 ghost use Rattle.strtab.specs.Rows.{row_at, row_size, map_row, program_row, symtab_of, ProgramsThere};
 
-use ast::{MapDecl, Name};
+use ast::NamedMap;
 use elf::{Section, Symbol};
 use object::{BpfObject, Program};
 
 // The maps' symbols, from the third entry on; returns the place of the next name.
-fn put_map_symbols<'a>(
-    out: &mut [u8],
-    text: &[u8],
-    maps: [MapDecl; BpfObject::MAPS],
-    ats: &'a [u16],
-    lens: &'a [u16],
-    count: usize,
-) -> usize
-    requires maps_there { MapsThere text.now maps ats.now lens.now count }
-    requires count_in_bounds { 48 + 24 * count ≤ length out.old }
-    ensures out_after { out.new ≡ over out.old 48 (row_at 10 (map_row text.now maps ats.now lens.now count)) }
-    ensures value { result ≡ 10 + row_size (map_row text.now maps ats.now lens.now count) }
-    ensures upper_bound { result ≤ 10 + 65 * count }
+fn put_map_symbols(out: &mut [u8], text: &[u8], maps: &[NamedMap]) -> usize
+    requires maps_there { MapsThere text.now maps.now }
+    requires maps_in_bounds { 48 + 24 * length maps.now ≤ length out.old }
+    ensures out_after { out.new ≡ over out.old 48 (row_at 10 (map_row text.now maps.now)) }
+    ensures value { result ≡ 10 + row_size (map_row text.now maps.now) }
+    ensures upper_bound { result ≤ 10 + 65 * length maps.now }
 {
     let mut at = Symbol::MAPS_AT;
     let mut place = Symbol::NEXT_NAME_AT;
     let mut value: u64 = 0;
-    let mut i = 0;
-    while i < count {
-        let size = btf::btf_map_size(maps[i]) as u64;
+    for map in maps {
+        let size = btf::btf_map_size(map.decl) as u64;
         let symbol = Symbol {
             name: place as u32,
             info: Symbol::GLOBAL_OBJECT,
@@ -40,14 +33,9 @@ fn put_map_symbols<'a>(
             size,
         };
         symbol.put(&mut out[at..at + Symbol::SIZE]);
-        let name = Name {
-            at: ats[i],
-            len: lens[i],
-        };
-        place = place + named::written_size(text, name) + 1;
+        place += named::written_size(text, map.name) + 1;
         value += size;
         at += Symbol::SIZE;
-        i += 1;
     }
     place
 }
@@ -58,21 +46,18 @@ fn put_program_symbols(
     start: usize,
     names: usize,
     text: &[u8],
-    programs: [Program; BpfObject::PROGRAMS],
-    count: usize,
+    programs: &[Program],
     first: usize,
 )
-    requires programs_there { ProgramsThere text.now programs count }
-    requires count_in_bounds { start + 24 * count ≤ length out.old }
+    requires programs_there { ProgramsThere text.now programs.now }
+    requires programs_in_bounds { start + 24 * length programs.now ≤ length out.old }
     requires names_bound { (names ≤ 5000) × (first ≤ 4) }
-    ensures { out.new ≡ over out.old start (row_at names (program_row text.now first (take count programs))) }
+    ensures { out.new ≡ over out.old start (row_at names (program_row text.now first programs.now)) }
 {
     let mut at = start;
     let mut place = names;
     let mut section = first;
-    let mut i = 0;
-    while i < count {
-        let program = programs[i];
+    for program in programs {
         let symbol = Symbol {
             name: place as u32,
             info: Symbol::GLOBAL_FUNC,
@@ -81,31 +66,20 @@ fn put_program_symbols(
             size: program.code_len as u64,
         };
         symbol.put(&mut out[at..at + Symbol::SIZE]);
-        place = place + named::written_size(text, program.symbol) + 1;
+        place += named::written_size(text, program.symbol) + 1;
         section = strtab::section_behind(section, program.relocs);
         at += Symbol::SIZE;
-        i += 1;
     }
 }
 
 // `.symtab`, into a part of exactly its length. The licence has `license` bytes.
-pub fn build_symtab<'a>(
-    out: &mut [u8],
-    text: &[u8],
-    object: BpfObject,
-    ats: &'a [u16],
-    lens: &'a [u16],
-    license: usize,
-)
-    requires lent { Lent text.now object ats.now lens.now }
-    requires license_value { license ≡ length (licence_in text.now object.license) }
+pub fn build_symtab(out: &mut [u8], text: &[u8], object: &BpfObject, license: usize)
+    requires kept { Kept text.now object.now }
+    requires license_value { license ≡ length (licence_in text.now object.now.license) }
     requires license_bound { license ≤ 64 }
-    requires out_len { length out.old ≡ 24 * (2 + object.map_count + object.program_count) }
-    ensures { out.new ≡ symtab_of (job_in text.now object) }
+    requires out_len { length out.old ≡ 24 * (2 + object.now.map_count + object.now.program_count) }
+    ensures { out.new ≡ symtab_of (job_in text.now object.now) }
 {
-    let maps = object.maps;
-    let programs = object.programs;
-    let count = object.map_count;
     Symbol::null().put(&mut out[0..Symbol::SIZE]);
     let symbol = Symbol {
         name: Symbol::LICENSE_NAME_AT as u32,
@@ -115,15 +89,13 @@ pub fn build_symtab<'a>(
         size: (license + 1) as u64,
     };
     symbol.put(&mut out[Symbol::SIZE..Symbol::MAPS_AT]);
-    let names = put_map_symbols(out, text, maps, ats, lens, count);
-    let first = strtab::first_program(count);
+    let names = put_map_symbols(out, text, object.maps());
     put_program_symbols(
         out,
-        Symbol::MAPS_AT + Symbol::SIZE * count,
+        Symbol::MAPS_AT + Symbol::SIZE * object.map_count,
         names,
         text,
-        programs,
-        object.program_count,
-        first,
+        object.programs(),
+        strtab::first_program(object.map_count),
     );
 }

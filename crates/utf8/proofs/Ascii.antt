@@ -1,19 +1,19 @@
--- Texts of ASCII alone: their code points are their bytes. The walk that looks for another byte gathers what it finds in one number.
+-- Texts of ASCII alone: their code points are their bytes.
 use mathlib.Core.Path.{◌≡◌, refl, sym, ◌∙◌, ap}
-use mathlib.Core.Bool.{Bool, true, false, cond, ◌&&◌, and-true, false≢true}
+use mathlib.Core.Bool.{Bool, true, false, ◌&&◌, and_assoc, false≢true}
 use mathlib.Core.Option.{Option, none, some}
 use mathlib.Core.List.{List, [], ◌∷◌}
 use Prim.Native.Nat.{ℕ, ◌+◌, ◌*◌, ◌≤◌, ◌<◌}
 use native.Mathlib.Omega.{arith}
-use lib.Bits.{bit_or}
-use lib.Dec.{leb, eqb}
+use lib.Dec.{leb}
 use lib.ListN.{length, drop, get_or}
 use borrow.Author.Tests.{le-leb, lt-leb, leb-true, leb-false}
-use Rattle.octets.proofs.Laws.{read_on, read_done}
+use Rattle.octets.proofs.Laws.{read_on}
 use Rattle.octets.proofs.Tests.{and_true_both}
-use Rattle.octets.proofs.Gather.{all_on}
-use Rattle.lines.specs.Hex.{there, is_hex, bytes_in}
-use Rattle.lines.proofs.Bytes.{number_of, digit_at, byte_here}
+use Rattle.lines.specs.Hex.{there}
+use Rattle.lines.specs.Bytes.{bytes}
+use Rattle.lines.specs.declared.Hex.{Hex}
+use Rattle.lines.proofs.Bytes.{number_of, chars_twice, digit_in, byte_in}
 use Rattle.lines.proofs.Same.{digit_is}
 use Rattle.utf8.specs.Utf8.{idle, point, put, points, is_text, all_ascii}
 use Rattle.utf8.proofs.Laws.{took, ok}
@@ -27,14 +27,10 @@ ascii-points (b ∷ bs) t =
 pub ascii-text : (bs : List ℕ) → all_ascii bs ≡ true → is_text bs ≡ true
 ascii-text bs t = ap ok (ascii-points bs t)
 
--- one byte more
-pub ascii_on : (bs : List ℕ) (i high n : ℕ) → i < length bs → n ≡ cond (leb (get_or bs i 0) 127) 0 1
-    → (eqb high 0 && all_ascii (drop i bs)) ≡ (eqb (bit_or high n) 0 && all_ascii (drop (i + 1) bs))
-ascii_on bs i high n h e =
-    ap (λ (l : List ℕ). eqb high 0 && all_ascii l) (read_on bs i h) ∙ all_on high n (leb (get_or bs i 0) 127) (all_ascii (drop (i + 1) bs)) e
-
-pub ascii-done : (bs : List ℕ) (i high : ℕ) → length bs ≤ i → (eqb high 0 && all_ascii (drop i bs)) ≡ eqb high 0
-ascii-done bs i high h = ap (λ (l : List ℕ). eqb high 0 && all_ascii l) (read_done bs i h) ∙ and-true (eqb high 0)
+-- one byte more, by a test that tells whether it is ASCII
+pub ascii_on : (bs : List ℕ) (i : ℕ) (all here : Bool) → i < length bs → here ≡ leb (get_or bs i 0) 127
+    → (all && all_ascii (drop i bs)) ≡ ((all && here) && all_ascii (drop (i + 1) bs))
+ascii_on bs i all here h e = rw (read_on bs i h, e) (sym (and_assoc all (leb (get_or bs i 0) 127) (all_ascii (drop (i + 1) bs))))
 
 -- ---- a byte in hexadecimal: its first digit tells whether it is ASCII
 
@@ -49,11 +45,12 @@ numbered : (o : Option ℕ) → there o ≡ true → some (number_of o) ≡ o
 numbered none t = absurd (false≢true t)
 numbered (some n) t = refl
 
-pub first-digit : (s : List ℕ) (i : ℕ) → 2 * i + 1 < length s → is_hex s ≡ true → leb (get_or s (2 * i) 0) 55 ≡ leb (get_or (bytes_in s) i 0) 127
-first-digit s i h t =
-    let p = digit_at s t (2 * i) (omega arith) in
-    let q = digit_at s t (2 * i + 1) h in
-    let c = digit_is (get_or s (2 * i) 0) p in
-    let d = digit_is (get_or s (2 * i + 1) 0) q in
-    let b = byte_here s i _ _ h t (numbered _ p) (numbered _ q) in
-    same_test (get_or s (2 * i) 0) 55 (get_or (bytes_in s) i 0) 127 (λ e. omega arith) (λ e. omega arith)
+pub first-digit : (s : Hex) (i : ℕ) → i < length (bytes s) → leb (get_or s.chars.now (2 * i) 0) 55 ≡ leb (get_or (bytes s) i 0) 127
+first-digit s i h =
+    let n = chars_twice s in
+    let p = digit_in s (2 * i) (omega arith) in
+    let q = digit_in s (2 * i + 1) (omega arith) in
+    let c = digit_is (get_or s.chars.now (2 * i) 0) p in
+    let d = digit_is (get_or s.chars.now (2 * i + 1) 0) q in
+    let b = byte_in s i _ _ h (numbered _ p) (numbered _ q) in
+    same_test (get_or s.chars.now (2 * i) 0) 55 (get_or (bytes s) i 0) 127 (λ e. omega arith) (λ e. omega arith)

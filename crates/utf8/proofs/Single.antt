@@ -3,8 +3,8 @@ use mathlib.Core.Path.{◌≡◌, refl, sym, ◌∙◌}
 use Rattle.octets.proofs.Single.{OneResult}
 use Rattle.utf8.specs.Wait.{wait_of, decoded_told}
 use Rattle.utf8.specs.declared.Wait.{Wait}
-use Rattle.utf8.specs.declared.Decoded.{Decoded}
-use Rattle.utf8.specs.declared.Decoded.TheVariants.{Takes, Bad}
+use Rattle.utf8.specs.declared.Next.{Next}
+use Rattle.std.specs.Prelude.{Option, None, Some}
 use Rattle.utf8.specs.declared.Stepped.{Stepped}
 use Rattle.utf8.proofs.Wait.idle.Kinds as idle_kinds
 use Rattle.utf8.proofs.Wait.idle.Reads as idle
@@ -24,11 +24,11 @@ idle_single κs a z z' e e' p p' = p ∙ sym p'
 wait_once : (w v : Wait) → wait_of w ≡ wait_of v → w ≡ v
 wait_once w v e = λ i. record { left = (e i).left; bits = (e i).bits; least = (e i).least }
 
-decoded_once : (r s : Decoded) → decoded_told r ≡ decoded_told s → r ≡ s
-decoded_once (Takes n) (Takes m) e = cc
-decoded_once (Takes n) Bad e = cc
-decoded_once Bad (Takes m) e = cc
-decoded_once Bad Bad e = refl
+decoded_once : (r s : Option Next) → decoded_told r ≡ decoded_told s → r ≡ s
+decoded_once (Some n) (Some m) e = cc
+decoded_once (Some n) None e = cc
+decoded_once None (Some m) e = cc
+decoded_once None None e = refl
 
 stepped_once : (r s : Stepped) → r.answer ≡ s.answer → r.wait ≡ s.wait → r ≡ s
 stepped_once r s e f = λ i. record { answer = e i; wait = f i }

@@ -1,12 +1,10 @@
 -- The code's states between two bytes, as the model has them, and what a step answers, in document 01's words.
-use Rattle.std.specs.Prelude.{ℕ, ◌+◌, ◌*◌, ◌-◌, ◌≤◌}
+use Rattle.std.specs.Prelude.{ℕ, ◌+◌, ◌*◌, ◌-◌, ◌≤◌, Option, None, Some}
 use Rattle.octets.specs.Told.{Told, gives, refuses}
 use Rattle.utf8.specs.Utf8 as text
 use Rattle.utf8.specs.declared.Wait.{Wait}
 use Rattle.utf8.specs.declared.Next.{Next}
 use Rattle.utf8.specs.declared.Next.TheVariants.{Point, More}
-use Rattle.utf8.specs.declared.Decoded.{Decoded}
-use Rattle.utf8.specs.declared.Decoded.TheVariants.{Takes, Bad}
 use Rattle.utf8.specs.declared.Stepped.{Stepped}
 
 abbrev pub wait_of : Wait → text.Wait
@@ -22,9 +20,9 @@ pub record Fine (w : Wait) : Type 0 where
   pub bits : w.bits + 504 * w.left ≤ 1519 + 31752 * (2 - w.left)
 
 -- what a step says of a byte: what it gives, or refusal 5 if it may not come there
-abbrev pub decoded_told : Decoded → Told Next
-decoded_told (Takes n) = gives n
-decoded_told Bad = refuses 5
+abbrev pub decoded_told : Option Next → Told Next
+decoded_told (Some n) = gives n
+decoded_told None = refuses 5
 
 abbrev pub step_told : Stepped → Told Next
 step_told r = decoded_told r.answer
@@ -43,10 +41,10 @@ wait_after w text.bad = w
 
 -- the three things that a step answers
 abbrev pub stepped_point : ℕ → Stepped
-stepped_point c = record { answer = Takes (Point c); wait = idle_wait }
+stepped_point c = record { answer = Some (Point c); wait = idle_wait }
 
 abbrev pub stepped_more : Wait → Stepped
-stepped_more w = record { answer = Takes More; wait = w }
+stepped_more w = record { answer = Some More; wait = w }
 
 abbrev pub stepped_bad : Wait → Stepped
-stepped_bad w = record { answer = Bad; wait = w }
+stepped_bad w = record { answer = None; wait = w }

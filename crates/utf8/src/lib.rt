@@ -1,10 +1,12 @@
 // UTF-8 as RFC 3629 gives it, of texts in hexadecimal.
 #![tactic(auto)]
 
-ghost use Rattle.std.specs.Prelude.{◌≡◌, true, cond, ◌+◌, ◌≤◌, ◌<◌, leb};
-ghost use Rattle.lines.specs.Hex.{is_hex, bytes_in};
+ghost use Rattle.std.specs.Prelude.{◌≡◌, ◌≤◌};
+ghost use Rattle.lines.specs.Bytes.{bytes};
 ghost use Rattle.utf8.specs.Utf8.{allowed, leads, continues, next, is_text, all_ascii, has_zero};
 ghost use Rattle.utf8.specs.Wait.{idle_wait, wait_of, Fine, step_told, next_told, wait_after, stepped_point, stepped_more, stepped_bad};
+
+use lines::Hex;
 
 // The state between two bytes of a text: a code point of which `left` bytes are still to come.
 #[derive(Clone, Copy)]
@@ -14,24 +16,18 @@ pub struct Wait {
     pub least: u32,
 }
 
-// What a byte that may come there gives: the code point that it ends, or that more bytes of one are to come.
+// What a byte that may come there gives: the code point that it ends, or that more bytes of one are to come. Neither case is an absence,
+// since the byte is taken in both: so it is no `Option`.
 #[derive(Clone, Copy)]
 pub enum Next {
     Point(u32),
     More,
 }
 
-// Whether a byte may come there.
-#[derive(Clone, Copy)]
-pub enum Decoded {
-    Takes(Next),
-    Bad,
-}
-
-// What a byte does there, and what is awaited after it. A byte that may not come there changes nothing.
+// What a byte gives there, none if it may not come there, and what is awaited after it. A byte that may not come there changes nothing.
 #[derive(Clone, Copy)]
 pub struct Stepped {
-    pub answer: Decoded,
+    pub answer: Option<Next>,
     pub wait: Wait,
 }
 
@@ -54,7 +50,7 @@ impl Stepped {
         ensures { result ≡ stepped_point c }
     {
         Stepped {
-            answer: Decoded::Takes(Next::Point(c)),
+            answer: Some(Next::Point(c)),
             wait: Wait::idle(),
         }
     }
@@ -64,7 +60,7 @@ impl Stepped {
         ensures { result ≡ stepped_more wait }
     {
         Stepped {
-            answer: Decoded::Takes(Next::More),
+            answer: Some(Next::More),
             wait,
         }
     }
@@ -73,10 +69,7 @@ impl Stepped {
     fn bad(wait: Wait) -> Self
         ensures { result ≡ stepped_bad wait }
     {
-        Stepped {
-            answer: Decoded::Bad,
-            wait,
-        }
+        Stepped { answer: None, wait }
     }
 }
 
@@ -84,16 +77,7 @@ impl Stepped {
 fn is_allowed(least: u32, c: u32) -> bool
     ensures { result ≡ allowed least c }
 {
-    if c < least {
-        return false;
-    }
-    if c < 0xd800 {
-        return true;
-    }
-    if c <= 0xdfff {
-        return false;
-    }
-    c <= 0x10ffff
+    least <= c && matches!(c, 0..=0xd7ff | 0xe000..=0x10ffff)
 }
 
 // A byte when no continuation is awaited.
@@ -103,35 +87,26 @@ fn lead(w: Wait, b: u8) -> Stepped
     ensures wait_value { wait_of result.wait ≡ wait_after (wait_of w) (leads b) }
     ensures fine { Fine result.wait }
 {
-    let v = b as u32;
-    if v <= 0x7f {
-        return Stepped::point(v);
-    }
-    if v < 0xc0 {
-        return Stepped::bad(w);
-    }
-    if v <= 0xdf {
-        return Stepped::more(Wait {
+    let v = u32::from(b);
+    match v {
+        0..=0x7f => Stepped::point(v),
+        0xc0..=0xdf => Stepped::more(Wait {
             left: 1,
             bits: v & 0x1f,
             least: 0x80,
-        });
-    }
-    if v <= 0xef {
-        return Stepped::more(Wait {
+        }),
+        0xe0..=0xef => Stepped::more(Wait {
             left: 2,
             bits: v & 0x0f,
             least: 0x800,
-        });
-    }
-    if v <= 0xf7 {
-        return Stepped::more(Wait {
+        }),
+        0xf0..=0xf7 => Stepped::more(Wait {
             left: 3,
             bits: v & 0x07,
             least: 0x1_0000,
-        });
+        }),
+        _ => Stepped::bad(w),
     }
-    Stepped::bad(w)
 }
 
 // A byte when a continuation is awaited.
@@ -141,26 +116,21 @@ fn proceed(w: Wait, b: u8) -> Stepped
     ensures wait_value { wait_of result.wait ≡ wait_after (wait_of w) (continues (wait_of w) b) }
     ensures fine { Fine result.wait }
 {
-    let v = b as u32;
-    if v < 0x80 {
-        return Stepped::bad(w);
-    }
-    if 0xbf < v {
+    let v = u32::from(b);
+    if !(0x80..=0xbf).contains(&v) {
         return Stepped::bad(w);
     }
     let c = (w.bits << 6) | (v & 0x3f);
-    let left = w.left;
-    let least = w.least;
-    if left == 1 {
-        if is_allowed(least, c) {
+    if w.left == 1 {
+        if is_allowed(w.least, c) {
             return Stepped::point(c);
         }
         return Stepped::bad(w);
     }
     Stepped::more(Wait {
-        left: left - 1,
+        left: w.left - 1,
         bits: c,
-        least,
+        least: w.least,
     })
 }
 
@@ -171,52 +141,34 @@ pub fn step(w: Wait, b: u8) -> Stepped
     ensures wait_value { wait_of result.wait ≡ wait_after (wait_of w) (next (wait_of w) b) }
     ensures fine { Fine result.wait }
 {
-    let left = w.left;
-    if left == 0 {
+    if w.left == 0 {
         return lead(w, b);
     }
     proceed(w, b)
 }
 
-// 0 for the first digit of an ASCII byte, `0` to `7`, and 1 for the others.
-fn not_low(c: u8) -> u8
-    ensures { result ≡ cond (leb c 55) 0 1 }
+// Whether every byte of `s` is ASCII: its first digit is then `0` to `7`. All are looked at, with no early end, so that the compiler takes
+// many at a time.
+#[tactic(auto, using(lines::proofs::Bytes::chars_twice))]
+pub fn is_ascii(s: Hex) -> bool
+    ensures { result ≡ all_ascii (bytes s.entry) }
 {
-    if c < 56 {
-        return 0;
+    let mut all = true;
+    for i in 0..s.len() {
+        all &= s.chars[2 * i] <= b'7';
     }
-    1
+    all
 }
 
-// Whether every byte of the hexadecimal `s` is ASCII. All are looked at, with no early end, so that the compiler takes many at a time.
-pub fn is_ascii(s: &[u8]) -> bool
-    requires { is_hex s.now ≡ true }
-    ensures { result ≡ all_ascii (bytes_in s.now) }
+// Whether the bytes of `s` are UTF-8, byte by byte.
+fn is_utf8(s: Hex) -> bool
+    ensures { result ≡ is_text (bytes s.entry) }
 {
-    let n = s.len() / 2;
-    let mut high: u8 = 0;
-    let mut i = 0;
-    while i < n {
-        high = high | not_low(s[2 * i]);
-        i += 1;
-    }
-    high == 0
-}
-
-// Whether the bytes of the hexadecimal `s` are UTF-8, byte by byte.
-fn is_utf8(s: &[u8]) -> bool
-    requires { is_hex s.now ≡ true }
-    ensures { result ≡ is_text (bytes_in s.now) }
-{
-    let n = s.len() / 2;
     let mut w = Wait::idle();
-    let mut i = 0;
-    while i < n {
-        let b = lines::byte_at(s, i);
-        i += 1;
-        let stepped = step(w, b);
+    for i in 0..s.len() {
+        let stepped = step(w, s.byte_at(i));
         let answer = stepped.answer;
-        let Decoded::Takes(_) = answer else {
+        let Some(_) = answer else {
             return false;
         };
         w = stepped.wait;
@@ -224,29 +176,21 @@ fn is_utf8(s: &[u8]) -> bool
     w.left == 0
 }
 
-// Whether the bytes of the hexadecimal `s` are UTF-8. Most texts are ASCII, which is seen without a look at each byte by itself.
-pub fn is_text(s: &[u8]) -> bool
-    requires { is_hex s.now ≡ true }
-    ensures { result ≡ is_text (bytes_in s.now) }
+// Whether the bytes of `s` are UTF-8. Most texts are ASCII, which is seen without a look at each byte by itself.
+pub fn is_text(s: Hex) -> bool
+    ensures { result ≡ is_text (bytes s.entry) }
 {
-    if is_ascii(s) {
-        return true;
-    }
-    is_utf8(s)
+    is_ascii(s) || is_utf8(s)
 }
 
-// Whether the hexadecimal `s` has a zero byte.
-pub fn has_zero(s: &[u8]) -> bool
-    requires { is_hex s.now ≡ true }
-    ensures { result ≡ has_zero (bytes_in s.now) }
+// Whether `s` has a zero byte.
+pub fn has_zero(s: Hex) -> bool
+    ensures { result ≡ has_zero (bytes s.entry) }
 {
-    let n = s.len() / 2;
-    let mut i = 0;
-    while i < n {
-        if lines::byte_at(s, i) == 0 {
+    for i in 0..s.len() {
+        if s.byte_at(i) == 0 {
             return true;
         }
-        i += 1;
     }
     false
 }

@@ -1,58 +1,49 @@
 // The names under which maps and programs are written.
 #![tactic(auto)]
 
-ghost use Rattle.std.specs.Prelude.{◌≡◌, true, cond, ◌+◌, ◌<◌, leb, length};
-ghost use Rattle.utf8.specs.Utf8.{is_text, all_ascii};
+ghost use Rattle.std.specs.Prelude.{◌≡◌, true, ◌<◌, length};
+ghost use Rattle.utf8.specs.Utf8.{is_text};
 ghost use Rattle.written.specs.Written.{letter, letter_or_digit, written, written_points, unnamed};
 ghost use Rattle.written.specs.Name.{char_at};
 
-use utf8::{Decoded, Next, Wait};
+use utf8::{Next, Wait};
 
-// An ASCII letter or `_`.
-fn is_letter(c: u32) -> bool
+// An ASCII letter or `_`. The tests are joined with no branch, here and below, so that the compiler takes many at a time in `put_later`.
+fn is_letter(c: u8) -> bool
     ensures { result ≡ letter c }
 {
-    if c < 65 {
-        return false;
-    }
-    if c <= 90 {
-        return true;
-    }
-    if c == 95 {
-        return true;
-    }
-    if c < 97 {
-        return false;
-    }
-    c <= 122
+    (b'A'..=b'Z').contains(&c) | (b'a'..=b'z').contains(&c) | (c == b'_')
 }
 
-fn is_letter_or_digit(c: u32) -> bool
+// The same, or a digit.
+fn is_letter_or_digit(c: u8) -> bool
     ensures { result ≡ letter_or_digit c }
 {
-    if is_letter(c) {
-        return true;
-    }
-    if c < 48 {
-        return false;
-    }
-    c <= 57
+    is_letter(c) | (b'0'..=b'9').contains(&c)
+}
+
+// What an ASCII character is written as before all others.
+fn first_char(c: u8) -> u8
+    ensures { result ≡ char_at 0 c }
+{
+    if is_letter(c) { c } else { b'_' }
+}
+
+// What an ASCII character is written as after others.
+fn later_char(c: u8) -> u8
+    ensures { result ≡ char_at 1 c }
+{
+    if is_letter_or_digit(c) { c } else { b'_' }
 }
 
 // What a code point is written as, after `n` others.
 pub fn written_char(c: u32, n: usize) -> u8
     ensures { result ≡ char_at n c }
 {
-    if n == 0 {
-        if is_letter(c) {
-            return c as u8;
-        }
+    let Ok(b) = u8::try_from(c) else {
         return b'_';
-    }
-    if is_letter_or_digit(c) {
-        return c as u8;
-    }
-    b'_'
+    };
+    if n == 0 { first_char(b) } else { later_char(b) }
 }
 
 // What an empty name is written as, `_solnix_symbol`.
@@ -71,29 +62,6 @@ fn put_unnamed(out: &mut [u8])
     octets::copy(out, b"_solnix_symbol");
 }
 
-// 0 for an ASCII byte, 1 for every other.
-fn is_high(b: u8) -> u8
-    ensures { result ≡ cond (leb b 127) 0 1 }
-{
-    if b < 128 {
-        return 0;
-    }
-    1
-}
-
-// Whether every byte of `s` is ASCII. All are looked at, with no early end, so that the compiler takes many at a time.
-fn is_ascii(s: &[u8]) -> bool
-    ensures { result ≡ all_ascii s.now }
-{
-    let mut high: u8 = 0;
-    let mut i = 0;
-    while i < s.len() {
-        high = high | is_high(s[i]);
-        i += 1;
-    }
-    high == 0
-}
-
 // How long the written name of the text `s` is, by its code points.
 fn points_len(s: &[u8]) -> usize
     requires { is_text s.now ≡ true }
@@ -101,20 +69,15 @@ fn points_len(s: &[u8]) -> usize
 {
     let mut w = Wait::idle();
     let mut n: usize = 0;
-    let mut i = 0;
-    while i < s.len() {
-        let b = s[i];
-        i += 1;
-        let stepped = utf8::step(w, b);
+    for b in s {
+        let stepped = utf8::step(w, *b);
         let answer = stepped.answer;
-        let Decoded::Takes(next) = answer else {
+        let Some(next) = answer else {
             return n;
         };
         w = stepped.wait;
         match next {
-            Next::Point(_) => {
-                n += 1;
-            }
+            Next::Point(_) => n += 1,
             Next::More => {}
         }
     }
@@ -130,7 +93,7 @@ pub fn written_len(s: &[u8]) -> usize
     requires { is_text s.now ≡ true }
     ensures { result ≡ length (written s.now) }
 {
-    if is_ascii(s) {
+    if s.is_ascii() {
         if s.len() == 0 {
             return Unnamed::LEN;
         }
@@ -139,35 +102,16 @@ pub fn written_len(s: &[u8]) -> usize
     points_len(s)
 }
 
-// An ASCII letter, `_` or a digit. The tests are joined with no branch.
-fn is_word(c: u8) -> bool
-    ensures { result ≡ letter_or_digit c }
-{
-    ((48 <= c) & (c <= 57)) | ((65 <= c) & (c <= 90)) | ((97 <= c) & (c <= 122)) | (c == 95)
-}
-
-// What an ASCII character after the first is written as.
-fn later_char(c: u8) -> u8
-    ensures { result ≡ char_at 1 c }
-{
-    if is_word(c) {
-        return c;
-    }
-    b'_'
-}
-
 // The written name of ASCII characters, of which there is at least one. All are written as later ones are, so that the compiler takes many
 // at a time; then the first is written again.
 fn put_later(out: &mut [u8], s: &[u8])
     requires { (length out.old ≡ length s.now) × (0 < length s.now) }
     ensures { out.new ≡ written_points s.now }
 {
-    let mut i = 0;
-    while i < out.len() {
-        out[i] = later_char(s[i]);
-        i += 1;
+    for (i, b) in out.iter_mut().enumerate() {
+        *b = later_char(s[i]);
     }
-    out[0] = written_char(s[0] as u32, 0);
+    out[0] = first_char(s[0]);
 }
 
 // The written name of ASCII characters.
@@ -190,13 +134,10 @@ fn put_points(out: &mut [u8], s: &[u8])
 {
     let mut w = Wait::idle();
     let mut n: usize = 0;
-    let mut i = 0;
-    while i < s.len() {
-        let b = s[i];
-        i += 1;
-        let stepped = utf8::step(w, b);
+    for b in s {
+        let stepped = utf8::step(w, *b);
         let answer = stepped.answer;
-        let Decoded::Takes(next) = answer else {
+        let Some(next) = answer else {
             return;
         };
         w = stepped.wait;
@@ -219,7 +160,7 @@ pub fn sanitize_ident(out: &mut [u8], s: &[u8])
     requires out_len { length out.old ≡ length (written s.now) }
     ensures { out.new ≡ written s.now }
 {
-    if is_ascii(s) {
+    if s.is_ascii() {
         put_ascii(out, s);
     } else {
         put_points(out, s);

@@ -2,13 +2,9 @@
 use mathlib.Core.Path.{ap}
 use native.Mathlib.Omega.{arith}
 use Rattle.contents.specs.Slots.{licence_len}
-use Rattle.contents.proofs.Slots.{licence_length, text-named}
+use Rattle.contents.proofs.Slots.{licence_length}
 use Rattle.contents.proofs.put_license.Goals as goal
 
-pub put_text-requires : goal.put_text-requires
-put_text-requires c =
-    let text = c.args.text.now in
-    let e = c.in-Text.is in record {
-      named = text-named text c.args.license c.in-Text.name e c.requires.licence_named;
-      out_len = omega (arith, c.requires.out_len, licence_length text c.args.license c.requires.licence_named, ap licence_len e);
-    }
+pub put_text-requires-clause-out_len : goal.put_text-requires-clause-out_len
+put_text-requires-clause-out_len c =
+    omega (arith, licence_length c.args.text.now c.args.license c.requires.licence_named, ap licence_len c.in-Text.is)

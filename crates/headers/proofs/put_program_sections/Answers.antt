@@ -1,46 +1,31 @@
--- `headers::put_program_sections` meets its contract. The loop's invariant: the names so far are there, and the rest is still to come.
--- Assumes nothing.
+-- `headers::put_program_sections` meets its contract: a program adds one name, or two. Assumes nothing.
 use native.Mathlib.Omega.{arith}
 use Rattle.named.proofs.There.{kept_program}
-use Rattle.headers.proofs.Names.{section_room, section_on, rel_room, rel_on, no_rel, sections_done}
+use Rattle.headers.proofs.Names.{section_on, rel_on, no_rel, sections_done}
 use Rattle.headers.proofs.put_program_sections.Goals as goal
+use Rattle.headers.proofs.put_program_sections.Goals.{then-program-ne0, else-program-ne0}
 
-pub put_section-at-requires : goal.put_section-at-requires
-put_section-at-requires c =
-    let l = c.loop-i in
-    let a = c.args in record {
-      named = (kept_program a.text.now 256 a.programs a.count l.i (omega (arith, l.invariant.2)) (omega arith) l.invariant.2.kept).section;
-      name_in_bounds = section_room a.text.now a.programs a.count l.i l.invariant.2 (omega arith) l.invariant.3;
-    }
+pub put_section-at-requires-clause-named : goal.put_section-at-requires-clause-named
+put_section-at-requires-clause-named c =
+    (kept_program c.args.text.now 256 c.args.programs.now c.loop-program.program-index c.loop-program-test.true c.requires.programs_there.kept).section
 
-pub put_rel_name-at-requires : goal.put_rel_name-at-requires
-put_rel_name-at-requires c =
-    let l = c.loop-i in
-    let a = c.args in
-    let g = section_on a.text.now a.programs a.count l.i _ _ l.invariant.2 (omega arith) l.invariant.3 c.put_section-at.ensures.out_after c.put_section-at.ensures.value in record {
-      named = (kept_program a.text.now 256 a.programs a.count l.i (omega (arith, l.invariant.2)) (omega arith) l.invariant.2.kept).section;
-      name_in_bounds = rel_room a.text.now a.programs a.count l.i (omega arith) g;
-    }
+pub put_rel_name-at-requires-clause-named : goal.put_rel_name-at-requires-clause-named
+put_rel_name-at-requires-clause-named c =
+    (kept_program c.args.text.now 256 c.args.programs.now c.loop-program.program-index c.loop-program-test.true c.requires.programs_there.kept).section
 
-pub loop-i-preserved-then-program-ne0 : goal.loop-i-preserved-then-program-ne0
-loop-i-preserved-then-program-ne0 c =
-    let l = c.loop-i in
-    let a = c.args in
-    let g = section_on a.text.now a.programs a.count l.i _ _ l.invariant.2 (omega arith) l.invariant.3 c.put_section-at.ensures.out_after c.put_section-at.ensures.value in
-    let h = rel_on a.text.now a.programs a.count l.i _ _ (omega arith) g c.put_rel_name-at.ensures.out_after c.put_rel_name-at.ensures.value in
-    (omega arith, h.same, l.invariant.2, h)
-
-pub loop-i-preserved : goal.loop-i-preserved
-loop-i-preserved c =
-    let l = c.loop-i in
-    let a = c.args in
-    let g = section_on a.text.now a.programs a.count l.i _ _ l.invariant.2 (omega arith) l.invariant.3 c.put_section-at.ensures.out_after c.put_section-at.ensures.value in
-    (omega arith, g.same, l.invariant.2, no_rel a.text.now a.programs a.count l.i (omega arith) g)
+pub loop-program-preserved : goal.loop-program-preserved
+loop-program-preserved c =
+    let text = c.args.text.now in
+    let ps = c.args.programs.now in
+    let i = c.loop-program.program-index in
+    let put = c.put_section-at.ensures in
+    let g = section_on text ps i _ _ c.loop-program-test.true c.loop-program.invariant put.out_after put.value in
+    elim c.if-program-ne0.branch [
+      | then-program-ne0 w ↦ rw (w.out-is, w.at-is) (rel_on text ps i _ _ (omega arith) g w.put_rel_name-at.ensures.out_after w.put_rel_name-at.ensures.value)
+      | else-program-ne0 w ↦ rw (w.out-is, w.at-is) (no_rel text ps i (omega arith) g)
+    ]
 
 pub returns : goal.returns
 returns c =
-    let l = c.loop-i in
-    let a = c.args in let both = sections_done a.text.now a.programs a.count l.i (omega arith) l.invariant.3 in record {
-      out_after = both.0;
-      value = both.1;
-    }
+    let both = sections_done c.args.text.now c.args.programs.now c.loop-program.program-index c.loop-program-test.false c.loop-program.invariant in
+    record { out_after = both.0; value = both.1 }

@@ -6,35 +6,28 @@ use native.Mathlib.Omega.{arith}
 use lib.ListN.{length, length-append}
 use borrow.Rule.Slice.PartMut.{mid_len}
 use Rattle.octets.specs.Octets.{zeros}
-use Rattle.octets.proofs.Laws.{over-length}
 use Rattle.octets.proofs.Filling.{over-part, over_two}
 use Rattle.object.specs.Read.{name_in}
 use Rattle.object.proofs.Names.{name_length}
 use Rattle.headers.proofs.put_section.Goals as goal
 
-pub put_name-end-requires : goal.put_name-end-requires
-put_name-end-requires c =
-    let a = c.args in record {
-      named = c.requires.named;
-      len_in_bounds = omega (arith, name_length a.text.now a.name c.requires.named, c.requires.name_in_bounds);
-    }
+pub put_name-end-requires-clause-len_in_bounds : goal.put_name-end-requires-clause-len_in_bounds
+put_name-end-requires-clause-len_in_bounds c =
+    omega (arith, name_length c.args.text.now c.args.name c.requires.named)
 
 pub slice_bounds-clear-end : goal.slice_bounds-clear-end
 slice_bounds-clear-end c =
-    let long = (let a = c.args in ap length c.put_name-end.ensures.out_after ∙ over-length a.out.now a.at (name_in a.text.now a.name) (omega (arith, c.requires.name_in_bounds))) in
-    let a = c.args in
-    omega (arith, long, c.put_name-end.ensures.value, name_length a.text.now a.name c.requires.named, c.requires.name_in_bounds)
+    omega (arith, name_length c.args.text.now c.args.name c.requires.named)
 
 pub returns : goal.returns
 returns c =
-    let long = (let a = c.args in ap length c.put_name-end.ensures.out_after ∙ over-length a.out.now a.at (name_in a.text.now a.name) (omega (arith, c.requires.name_in_bounds))) in
     let a = c.args in
     let n = name_in a.text.now a.name in
     let size = name_length a.text.now a.name c.requires.named in
     let r = c.put_name-end.result in
-    let end : r ≡ a.at + length n = omega (arith, c.put_name-end.ensures.value, size) in
+    let end : r ≡ a.at + length n = omega (arith, size) in
     let one : r + 1 - r ≡ 1 = omega arith in
-    let zero = c.clear.ensures ∙ ap zeros (mid_len r (r + 1) _ (omega (arith, long, end, c.requires.name_in_bounds)) ∙ one) in record {
+    let zero = c.clear.ensures ∙ ap zeros (mid_len r (r + 1) _ (omega arith) ∙ one) in record {
       out_after = over_two a.out.now a.at n (0 ∷ []) _ _ r (omega (arith, c.requires.name_in_bounds)) c.put_name-end.ensures.out_after end (over-part _ r (r + 1) _ (0 ∷ []) refl zero);
       value = omega (arith, end, length-append n (0 ∷ []));
     }

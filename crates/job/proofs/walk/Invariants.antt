@@ -5,7 +5,7 @@ use Rattle.job.proofs.Walking.{Walking}
 use Rattle.job.proofs.walk.Given as goal
 
 abbrev pub invariant-loop-at : goal.invariant-loop-at
-invariant-loop-at l = Walking l.text l.object l.opened l.program l.count l.at
+invariant-loop-at l = Walking l.text l.object l.opened l.count l.at
 
 abbrev pub decreases-loop-at : goal.decreases-loop-at
 decreases-loop-at l = length l.text - l.at

@@ -1,5 +1,5 @@
 -- `judge::judge_program` meets its contract. Assumes nothing.
-use mathlib.Core.Path.{◌≡◌, refl, sym, ◌∙◌, ap}
+use mathlib.Core.Path.{◌≡◌, refl, ◌∙◌, ap}
 use mathlib.Core.Bool.{Bool, true, false, ◌||◌}
 use mathlib.Core.Option.{some}
 use mathlib.Core.List.{List}
@@ -14,7 +14,6 @@ use Rattle.octets.proofs.Tests.{or_false_both}
 use Rattle.utf8.specs.Utf8.{is_text, has_zero}
 use Rattle.frames.specs.Frames.{program}
 use Rattle.refusals.specs.Checked.{Stage, long, bad_name, bad_string, bad_program, added}
-use Rattle.flaws.specs.Flaws.{flaw_told, limit_told}
 use Rattle.judge.specs.declared.Counts.{Counts}
 use Rattle.judge.specs.Judged.{line_bytes, Agrees}
 use Rattle.judge.proofs.Pieces.{within, middle, rest, part_hex, part_bytes, piece_name, piece_named}
@@ -48,23 +47,26 @@ overflow_mul-middle c = omega (arith, within c.args.text.now c.args.at c.args.en
 pub overflow_add-middle : goal.overflow_add-middle
 overflow_add-middle c = omega (arith, within c.args.text.now c.args.at c.args.end c.requires.framed c.args.symbol c.requires.le_symbol.1)
 
-pub slice_bounds-program_flaw-end : goal.slice_bounds-program_flaw-end
-slice_bounds-program_flaw-end c = omega (arith, within c.args.text.now c.args.at c.args.end c.requires.framed c.args.symbol c.requires.le_symbol.1, c.requires.framed.last)
+pub slice_bounds-first-end : goal.slice_bounds-first-end
+slice_bounds-first-end c = omega (arith, within c.args.text.now c.args.at c.args.end c.requires.framed c.args.symbol c.requires.le_symbol.1, c.requires.framed.last)
 
-pub slice_bounds-program_flaw-count-2 : goal.slice_bounds-program_flaw-count-2
-slice_bounds-program_flaw-count-2 c = omega (arith, within c.args.text.now c.args.at c.args.end c.requires.framed c.args.symbol c.requires.le_symbol.1)
+pub slice_bounds-second-count : goal.slice_bounds-second-count
+slice_bounds-second-count c = omega (arith, within c.args.text.now c.args.at c.args.end c.requires.framed c.args.symbol c.requires.le_symbol.1)
 
-pub slice_bounds-program_flaw-start-2 : goal.slice_bounds-program_flaw-start-2
-slice_bounds-program_flaw-start-2 c = omega (arith, within c.args.text.now c.args.at c.args.end c.requires.framed c.args.symbol c.requires.le_symbol.1)
+pub slice_bounds-second-start : goal.slice_bounds-second-start
+slice_bounds-second-start c = omega (arith, within c.args.text.now c.args.at c.args.end c.requires.framed c.args.symbol c.requires.le_symbol.1)
 
-pub program_flaw-flaw-requires : goal.program_flaw-flaw-requires
-program_flaw-flaw-requires c =
+pub invariant_of-first : goal.invariant_of-first
+invariant_of-first c =
     let inside = within c.args.text.now c.args.at c.args.end c.requires.framed c.args.symbol c.requires.le_symbol.1 in
-    let first_piece = (let a = c.args in middle a.text.now a.at a.end c.requires.framed 2 a.symbol (a.at + 4) (a.at + 2 * a.symbol) c.requires.le_symbol.0 (omega arith) (omega arith) inside) in
-    let second-piece = (let a = c.args in rest a.text.now a.at a.end c.requires.framed a.symbol (a.at + 2 * a.symbol) (omega arith) inside) in record {
-      section_value = part_hex first_piece;
-      symbol_value = part_hex second-piece;
-    }
+    let a = c.args in
+    record { hex = part_hex (middle a.text.now a.at a.end c.requires.framed 2 a.symbol (a.at + 4) (a.at + 2 * a.symbol) c.requires.le_symbol.0 (omega arith) (omega arith) inside) }
+
+pub invariant_of-second : goal.invariant_of-second
+invariant_of-second c =
+    let inside = within c.args.text.now c.args.at c.args.end c.requires.framed c.args.symbol c.requires.le_symbol.1 in
+    let a = c.args in
+    record { hex = part_hex (rest a.text.now a.at a.end c.requires.framed a.symbol (a.at + 2 * a.symbol) (omega arith) inside) }
 
 pub returns-in_default : goal.returns-in_default
 returns-in_default c =
@@ -75,27 +77,12 @@ returns-in_default c =
     let inside = within c.args.text.now c.args.at c.args.end c.requires.framed c.args.symbol c.requires.le_symbol.1 in
     let first_piece = (let a = c.args in middle a.text.now a.at a.end c.requires.framed 2 a.symbol (a.at + 4) (a.at + 2 * a.symbol) c.requires.le_symbol.0 (omega arith) (omega arith) inside) in
     let second-piece = (let a = c.args in rest a.text.now a.at a.end c.requires.framed a.symbol (a.at + 2 * a.symbol) (omega arith) inside) in
-    let flaw = c.program_flaw-flaw.ensures ∙ same-flaw (part_bytes first_piece) (part_bytes second-piece) in
+    let flaw = c.in_default.ensures ∙ same-flaw (part_bytes first_piece) (part_bytes second-piece) in
     λ s e. (
       stops s frame bytes c.requires.says 5
-          (at_5 false (bad_program section_of symbol_of) (over s section_of symbol_of) refl (told_holds 5 5 (bad_program section_of symbol_of) (sym (ap flaw_told c.in_default.is) ∙ flaw))),
+          (at_5 false (bad_program section_of symbol_of) (over s section_of symbol_of) refl (told_holds 5 5 (bad_program section_of symbol_of) flaw)),
       omega (arith, e.lines),
     )
-
-pub slice_bounds-program_limit-count-2 : goal.slice_bounds-program_limit-count-2
-slice_bounds-program_limit-count-2 c = omega (arith, within c.args.text.now c.args.at c.args.end c.requires.framed c.args.symbol c.requires.le_symbol.1)
-
-pub slice_bounds-program_limit-start-2 : goal.slice_bounds-program_limit-start-2
-slice_bounds-program_limit-start-2 c = omega (arith, within c.args.text.now c.args.at c.args.end c.requires.framed c.args.symbol c.requires.le_symbol.1)
-
-pub program_limit-limit-requires : goal.program_limit-limit-requires
-program_limit-limit-requires c =
-    let inside = within c.args.text.now c.args.at c.args.end c.requires.framed c.args.symbol c.requires.le_symbol.1 in
-    let first_piece = (let a = c.args in middle a.text.now a.at a.end c.requires.framed 2 a.symbol (a.at + 4) (a.at + 2 * a.symbol) c.requires.le_symbol.0 (omega arith) (omega arith) inside) in
-    let second-piece = (let a = c.args in rest a.text.now a.at a.end c.requires.framed a.symbol (a.at + 2 * a.symbol) (omega arith) inside) in record {
-      section_value = part_hex first_piece;
-      symbol_value = part_hex second-piece;
-    }
 
 pub returns-in_default-limit : goal.returns-in_default-limit
 returns-in_default-limit c =
@@ -106,19 +93,19 @@ returns-in_default-limit c =
     let inside = within c.args.text.now c.args.at c.args.end c.requires.framed c.args.symbol c.requires.le_symbol.1 in
     let first_piece = (let a = c.args in middle a.text.now a.at a.end c.requires.framed 2 a.symbol (a.at + 4) (a.at + 2 * a.symbol) c.requires.le_symbol.0 (omega arith) (omega arith) inside) in
     let second-piece = (let a = c.args in rest a.text.now a.at a.end c.requires.framed a.symbol (a.at + 2 * a.symbol) (omega arith) inside) in
-    let flaw = c.program_flaw-flaw.ensures ∙ same-flaw (part_bytes first_piece) (part_bytes second-piece) in
-    let good = told_free 5 _ (sym (ap flaw_told c.in-Good.is) ∙ flaw) in
+    let flaw = c.in-Ok.ensures ∙ same-flaw (part_bytes first_piece) (part_bytes second-piece) in
+    let good = told_free 5 _ flaw in
     let full = leb 32 c.args.counts.programs in
-    let limit = c.program_limit-limit.ensures ∙ same-limit full (part_bytes first_piece) (part_bytes second-piece) in
+    let limit = c.in_default-limit.ensures ∙ same-limit full (part_bytes first_piece) (part_bytes second-piece) in
     λ s e. (
       stops s frame bytes c.requires.says 6
           (at_6 false (bad_program section_of symbol_of) (over s section_of symbol_of) refl good
-          (over-is s c.args.counts section_of symbol_of e true (told_holds 6 6 (full || long section_of || long symbol_of) (sym (ap limit_told c.in_default-limit.is) ∙ limit)))),
+          (over-is s c.args.counts section_of symbol_of e true (told_holds 6 6 (full || long section_of || long symbol_of) limit))),
       omega (arith, e.lines),
     )
 
-pub name_at-section-requires : goal.name_at-section-requires
-name_at-section-requires c =
+pub name_at-section-requires-clause-end_bound_2 : goal.name_at-section-requires-clause-end_bound_2
+name_at-section-requires-clause-end_bound_2 c =
     let bytes = line_bytes c.args.text.now c.args.at c.args.end in
     let section_of = take (c.args.symbol - 2) (drop 2 bytes) in
     let full = leb 32 c.args.counts.programs in
@@ -126,19 +113,18 @@ name_at-section-requires c =
     let inside = within c.args.text.now c.args.at c.args.end c.requires.framed c.args.symbol c.requires.le_symbol.1 in
     let first_piece = (let a = c.args in middle a.text.now a.at a.end c.requires.framed 2 a.symbol (a.at + 4) (a.at + 2 * a.symbol) c.requires.le_symbol.0 (omega arith) (omega arith) inside) in
     let second-piece = (let a = c.args in rest a.text.now a.at a.end c.requires.framed a.symbol (a.at + 2 * a.symbol) (omega arith) inside) in
-    let limit = c.program_limit-limit.ensures ∙ same-limit full (part_bytes first_piece) (part_bytes second-piece) in
-    let kept = told_free 6 _ (sym (ap limit_told c.in-Kept.is) ∙ limit) in
+    let limit = c.in-Ok-limit.ensures ∙ same-limit full (part_bytes first_piece) (part_bytes second-piece) in
+    let kept = told_free 6 _ limit in
     let room : (full || long section_of) ≡ false = (or_false_both (full || long section_of) (long symbol_of) kept).0 in
     let short-section : long section_of ≡ false = (or_false_both full (long section_of) room).1 in
-    let f = c.requires.framed in
-    let n = ltb-false 64 (length section_of) short-section in record {
-      from_le_end = omega (arith, c.requires.le_symbol);
-      end_bound = omega (arith, f.few, f.last, inside);
-      end_bound_2 = omega (arith, first_piece.count, first_piece.even);
-    }
+    let n = ltb-false 64 (length section_of) short-section in
+    omega (arith, first_piece.count, first_piece.even)
 
-pub name_at-symbol-requires : goal.name_at-symbol-requires
-name_at-symbol-requires c =
+pub name_at-symbol-requires-clause-from_le_end : goal.name_at-symbol-requires-clause-from_le_end
+name_at-symbol-requires-clause-from_le_end c = within c.args.text.now c.args.at c.args.end c.requires.framed c.args.symbol c.requires.le_symbol.1
+
+pub name_at-symbol-requires-clause-end_bound_2 : goal.name_at-symbol-requires-clause-end_bound_2
+name_at-symbol-requires-clause-end_bound_2 c =
     let bytes = line_bytes c.args.text.now c.args.at c.args.end in
     let symbol_of = drop c.args.symbol bytes in
     let full = leb 32 c.args.counts.programs in
@@ -146,15 +132,11 @@ name_at-symbol-requires c =
     let inside = within c.args.text.now c.args.at c.args.end c.requires.framed c.args.symbol c.requires.le_symbol.1 in
     let first_piece = (let a = c.args in middle a.text.now a.at a.end c.requires.framed 2 a.symbol (a.at + 4) (a.at + 2 * a.symbol) c.requires.le_symbol.0 (omega arith) (omega arith) inside) in
     let second-piece = (let a = c.args in rest a.text.now a.at a.end c.requires.framed a.symbol (a.at + 2 * a.symbol) (omega arith) inside) in
-    let limit = c.program_limit-limit.ensures ∙ same-limit full (part_bytes first_piece) (part_bytes second-piece) in
-    let kept = told_free 6 _ (sym (ap limit_told c.in-Kept.is) ∙ limit) in
+    let limit = c.in-Ok-limit.ensures ∙ same-limit full (part_bytes first_piece) (part_bytes second-piece) in
+    let kept = told_free 6 _ limit in
     let short-symbol : long symbol_of ≡ false = (or_false_both (full || long section_of) (long symbol_of) kept).1 in
-    let f = c.requires.framed in
-    let n = ltb-false 64 (length symbol_of) short-symbol in record {
-      from_le_end = inside;
-      end_bound = omega (arith, f.few, f.last);
-      end_bound_2 = omega (arith, second-piece.count, second-piece.even);
-    }
+    let n = ltb-false 64 (length symbol_of) short-symbol in
+    omega (arith, second-piece.count, second-piece.even)
 
 pub returns : goal.returns
 returns c =
@@ -165,12 +147,12 @@ returns c =
     let inside = within c.args.text.now c.args.at c.args.end c.requires.framed c.args.symbol c.requires.le_symbol.1 in
     let first_piece = (let a = c.args in middle a.text.now a.at a.end c.requires.framed 2 a.symbol (a.at + 4) (a.at + 2 * a.symbol) c.requires.le_symbol.0 (omega arith) (omega arith) inside) in
     let second-piece = (let a = c.args in rest a.text.now a.at a.end c.requires.framed a.symbol (a.at + 2 * a.symbol) (omega arith) inside) in
-    let limit = c.program_limit-limit.ensures ∙ same-limit full (part_bytes first_piece) (part_bytes second-piece) in
-    let kept = told_free 6 _ (sym (ap limit_told c.in-Kept.is) ∙ limit) in
+    let limit = c.in-Ok-limit.ensures ∙ same-limit full (part_bytes first_piece) (part_bytes second-piece) in
+    let kept = told_free 6 _ limit in
     let room : (full || long section_of) ≡ false = (or_false_both (full || long section_of) (long symbol_of) kept).0 in
     let frame = program section_of symbol_of in
-    let flaw = c.program_flaw-flaw.ensures ∙ same-flaw (part_bytes first_piece) (part_bytes second-piece) in
-    let good = told_free 5 _ (sym (ap flaw_told c.in-Good.is) ∙ flaw) in
+    let flaw = c.in-Ok.ensures ∙ same-flaw (part_bytes first_piece) (part_bytes second-piece) in
+    let good = told_free 5 _ flaw in
     let text-section = (let a = section_of in let g = (or_false_both (bad_string a || eqb (length a) 0) (bad_name symbol_of) good).0 in not-false (is_text a) (or_false_both (bad_name a) (has_zero a) (or_false_both (bad_string a) (eqb (length a) 0) g).0).0) in
     let short-section : long section_of ≡ false = (or_false_both full (long section_of) room).1 in
     let text-symbol = (let a = section_of in not-false (is_text symbol_of) (or_false_both (bad_string a || eqb (length a) 0) (bad_name symbol_of) good).1) in

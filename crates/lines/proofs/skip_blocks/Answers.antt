@@ -1,17 +1,13 @@
 -- `lines::skip_blocks` meets its contract. Assumes nothing.
-use mathlib.Core.Path.{◌≡◌, sym, ◌∙◌, ap}
-use mathlib.Core.Bool.{false}
-use Prim.Native.Nat.{ℕ, ◌+◌, ◌-◌}
-use lib.ListN.{take, drop}
-use native.Mathlib.Omega.{arith}
-use Rattle.lines.specs.Ends.{holds_end}
+use mathlib.Core.Path.{sym, ◌∙◌}
 use Rattle.lines.proofs.Walks.{block_on}
 use Rattle.lines.proofs.skip_blocks.Goals as goal
 
-pub loop-i-preserved : goal.loop-i-preserved
-loop-i-preserved c =
-    let l = c.loop-i in
-    let s = c.args.s.now in
-    let n : l.i + 64 - l.i ≡ 64 = omega arith in
-    let e : holds_end (take 64 (drop l.i s)) ≡ false = ap (λ (k : ℕ). holds_end (take k (drop l.i s))) (sym n) ∙ sym c.has_end.ensures ∙ c.if-has_end.false in
-    (omega arith, sym (block_on s 64 l.i (omega arith) e) ∙ l.invariant.1)
+pub loop-block-preserved : goal.loop-block-preserved
+loop-block-preserved c =
+    let l = c.loop-block in
+    let s = c.in-Some.ensures.steps in
+    let n = s.1.1 ∙ l.invariant.1 in
+    let b = block_on c.args.s.now c.in-Some.block.now c.next.new.self.rest.now l.i l.invariant.0 (sym l.invariant.2 ∙ s.1.0) (sym c.if-has_end.ensures) in
+    let b' = rw n at b in
+    (b'.0, s.0 ∙ l.invariant.1, b'.1, b'.2 ∙ l.invariant.3)

@@ -5,18 +5,14 @@ use Rattle.octets.specs.Told.{told}
 use Rattle.lookup.proofs.Names.{here, not_here}
 use Rattle.lookup.proofs.find_map.Goals as goal
 
-pub returns-then-same : goal.returns-then-same
-returns-then-same c =
+pub returns-then-same-clause-finds : goal.returns-then-same-clause-finds
+returns-then-same-clause-finds c =
     let l = c.loop-i in
-    let a = c.args in record {
-      finds = (λ ds h. ap (told 7) (sym (l.invariant.1 ds h ∙ here a.text.now a.ats.now a.lens.now a.count a.name.now c.requires.names c.requires.name_value ds h l.i (omega arith) (omega arith) (sym c.if-same.true ∙ c.same.ensures))));
-      found_in = omega arith;
-    }
+    let a = c.args in
+    ap (told 7) (sym (l.invariant ∙ here a.text.now a.maps.now a.name.chars.now c.requires a.name.hex l.i (omega arith) (omega arith) (sym c.if-same.true ∙ c.same.ensures)))
 
 pub loop-i-preserved : goal.loop-i-preserved
 loop-i-preserved c =
     let l = c.loop-i in
-    let a = c.args in (
-      omega arith,
-      (λ ds h. l.invariant.1 ds h ∙ not_here a.text.now a.ats.now a.lens.now a.count a.name.now c.requires.names c.requires.name_value ds h l.i (omega arith) (omega arith) (sym c.if-same.false ∙ c.same.ensures)),
-    )
+    let a = c.args in
+    l.invariant ∙ not_here a.text.now a.maps.now a.name.chars.now c.requires a.name.hex l.i (omega arith) (omega arith) (sym c.if-same.false ∙ c.same.ensures)

@@ -1,31 +1,26 @@
 -- `maker::weigh` meets its contract. Assumes nothing.
-use mathlib.Core.Path.{sym, ◌∙◌}
+use mathlib.Core.Path.{◌≡◌, sym, ◌∙◌, ap}
 use native.Mathlib.Omega.{arith}
+use lib.ListN.{length}
 use Rattle.btf.specs.Btf.{add_types, start}
 use Rattle.btf.specs.Maps.{btf_types}
 use Rattle.btf.proofs.Types.{length-finished}
+use Rattle.members.specs.Section.{rooms_of}
 use Rattle.object.specs.Read.{declared_maps}
 use Rattle.contents.proofs.Slots.{licence_length}
-use Rattle.maker.proofs.Sizes.{licence_short}
+use Rattle.maker.proofs.Sizes.{rooms}
 use Rattle.maker.proofs.weigh.Goals as goal
 
-pub returns : goal.returns
-returns c =
-    let k = c.requires.kept in
-    let a = c.args in
-    let w = c.weigh_maps-maps.ensures in
-    let licence = licence_length a.text.now a.object.license k.licence in record {
-      sizes_of = record {
-        license = licence ∙ sym c.license_len-license.ensures;
-        maps = w.object_value;
-        btf = omega (arith, length-finished (add_types (btf_types (declared_maps a.text.now a.object)) start), w.types_value, w.strings_value);
-        strtab = sym c.strtab_size-strtab.ensures.value;
-      };
-      small = record {
-        license = omega (arith, c.license_len-license.ensures, licence_short a.text.now a.object k);
-        maps = w.strings_bound.1;
-        btf = omega (arith, w.strings_bound.0);
-        strtab = c.strtab_size-strtab.ensures.upper_bound;
-      };
-      types_value = w.types_value;
+pub returns-clause-sizes_of : goal.returns-clause-sizes_of
+returns-clause-sizes_of c =
+    let text = c.args.text.now in
+    let o = c.args.object.now in
+    let b = c.btf_size-btf.ensures in
+    let types : c.btf_size-btf.result.types ≡ length (add_types (btf_types (declared_maps text o)) start).types = rw c.maps-maps.ensures at b.types_value in
+    let strings : c.btf_size-btf.result.strings ≡ length (add_types (btf_types (declared_maps text o)) start).strings = rw c.maps-maps.ensures at b.strings_value in
+    record {
+      license = licence_length text o.license c.requires.licence ∙ sym c.license_len.ensures;
+      maps = rooms text o c.requires c.maps_size.result (c.maps_size.ensures.value ∙ ap rooms_of c.maps-maps.ensures);
+      btf = omega (arith, length-finished (add_types (btf_types (declared_maps text o)) start), types, strings);
+      strtab = sym c.strtab_size.ensures.value;
     }

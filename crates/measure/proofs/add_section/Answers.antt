@@ -1,12 +1,7 @@
 -- `measure::add_section` meets its contract. Assumes nothing.
-use mathlib.Core.Path.{refl}
 use Prim.Native.Nat.{◌*◌}
 use Rattle.measure.proofs.Table.{row_over}
 use Rattle.measure.proofs.add_section.Goals as goal
 
-pub returns : goal.returns
-returns c =
-    let a = c.args in record {
-      table_after = row_over a.table.now _ (64 * a.m.count) a.section c.put.ensures;
-      value = refl;
-    }
+pub returns-clause-table_after : goal.returns-clause-table_after
+returns-clause-table_after c = row_over c.args.table.now _ (64 * c.args.m.count) c.args.section c.put.ensures

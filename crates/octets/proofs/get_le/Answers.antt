@@ -1,26 +1,21 @@
 -- `octets::get_le` meets its contract. Assumes nothing.
-use Prim.Native.Nat.{◌-◌}
 use native.Mathlib.Omega.{arith}
-use lib.ListN.{length, get_or}
-use Rattle.octets.proofs.Reading.{small, more, larger}
+use Rattle.octets.specs.Octets.{value}
+use Rattle.octets.proofs.Reading.{back_on, back_fits, back_done, value_below}
 use Rattle.octets.proofs.get_le.Goals as goal
 
 pub overflow_mul-v : goal.overflow_mul-v
-overflow_mul-v c =
-    let l = c.loop-i in
-    omega (arith, small (length c.args.s.now) l.i l.v (omega arith) (omega arith) l.invariant.2)
+overflow_mul-v c = omega (arith, back_fits c.args.s.now _ _ c.loop-b.v c.requires c.type_inv.s c.in-Some.ensures.steps c.loop-b.invariant)
 
 pub overflow_add-v : goal.overflow_add-v
-overflow_add-v c =
-    let l = c.loop-i in
-    let m = small (length c.args.s.now) l.i l.v (omega arith) (omega arith) l.invariant.2 in
-    omega (arith, c.type_inv.s (l.i - 1))
+overflow_add-v c = omega (arith, back_fits c.args.s.now _ _ c.loop-b.v c.requires c.type_inv.s c.in-Some.ensures.steps c.loop-b.invariant)
 
-pub loop-i-preserved : goal.loop-i-preserved
-loop-i-preserved c =
-    let l = c.loop-i in
-    let s = c.args.s.now in (
-      omega arith,
-      more s l.i l.v (omega arith) (omega arith) l.invariant.1,
-      larger (length s) l.i l.v (get_or s (l.i - 1) 0) (omega arith) (omega arith) l.invariant.2 (omega (arith, c.type_inv.s (l.i - 1))),
-    )
+pub loop-b-preserved : goal.loop-b-preserved
+loop-b-preserved c = back_on (value c.args.s.now) _ _ c.loop-b.v c.in-Some.ensures.steps c.loop-b.invariant
+
+pub returns-clause-value : goal.returns-clause-value
+returns-clause-value c = back_done _ _ _ c.in-None.ensures.steps.0 c.loop-b.invariant
+
+pub returns-clause-upper_bound : goal.returns-clause-upper_bound
+returns-clause-upper_bound c =
+    omega (arith, value_below c.args.s.now c.type_inv.s, back_done _ _ _ c.in-None.ensures.steps.0 c.loop-b.invariant)

@@ -6,12 +6,8 @@ use lib.ListN.{length, length-set}
 use Rattle.octets.proofs.Laws.{write_on}
 use Rattle.octets.proofs.put_le.Goals as goal
 
-pub loop-i-preserved : goal.loop-i-preserved
-loop-i-preserved c =
-    let l = c.loop-i in
-    let n = length c.args.out.now in
-    let e : n - l.i ≡ suc (n - (l.i + 1)) = omega arith in (
-      omega arith,
-      simp length-set (omega arith),
-      write_on l.out l.i _ (omega arith) l.invariant.2 (rw e),
-    )
+pub loop-b-preserved : goal.loop-b-preserved
+loop-b-preserved c =
+    let l = c.loop-b in
+    let e : length l.out - l.b-index ≡ suc (length l.out - (l.b-index + 1)) = omega arith in
+    rw length-set (write_on l.out l.b-index _ (omega arith) l.invariant (rw e))

@@ -1,44 +1,50 @@
 -- `sections::write_tables` meets its contract. Assumes nothing.
-use mathlib.Core.Path.{sym}
+use mathlib.Core.Path.{◌≡◌, sym}
 use native.Mathlib.Omega.{arith}
+use borrow.Author.Rules.{rules}
 use Rattle.object.specs.Read.{job_in}
 use Rattle.elf.specs.Added.{one, eight}
+use Rattle.strtab.specs.Rows.{symtab_of, strtab_of}
 use Rattle.strtab.proofs.Whole.{symtab_long}
+use Rattle.headers.specs.Names.{shstrtab_of}
 use Rattle.sections.specs.Pieces.{table_pieces}
-use Rattle.sections.proofs.Turns.{turn_start, turn_fits, turn_on, turn_done}
+use Rattle.sections.proofs.Turns.{turn_start, turn_room, turn_lay, turn_done}
 use Rattle.sections.proofs.write_tables.Goals as goal
 
-pub lay_symtab-first-requires : goal.lay_symtab-first-requires
-lay_symtab-first-requires c =
-    let begun = (let a = c.args in turn_start a.out.now a.end (table_pieces (job_in a.text.now a.object)) (omega arith, (omega arith, (omega arith, tt))) c.requires.object_in_bounds.0) in
-    let a = c.args in record {
-      lent = c.requires.lent;
-      license_value = (sym c.requires.sizes_of.license, c.requires.small.license);
-      fits = turn_fits _ _ _ (begun) eight (sym (symtab_long a.text.now a.object c.requires.lent.kept)) c.requires.object_in_bounds.1;
-    }
+pub lay-first-requires-clause-room : goal.lay-first-requires-clause-room
+lay-first-requires-clause-room c =
+    let a = c.args in
+    let begun = turn_start a.out.now a.end (table_pieces (job_in a.text.now a.object.now)) (omega arith, (omega arith, (omega arith, tt))) c.requires.object_in_bounds.0 in
+    turn_room _ _ _ begun eight (sym (symtab_long a.text.now a.object.now c.requires.kept)) c.requires.object_in_bounds.1
 
-pub lay_strtab-second-requires : goal.lay_strtab-second-requires
-lay_strtab-second-requires c =
-    let begun = (let a = c.args in turn_start a.out.now a.end (table_pieces (job_in a.text.now a.object)) (omega arith, (omega arith, (omega arith, tt))) c.requires.object_in_bounds.0) in
-    let first = turn_on _ _ _ _ (begun) c.lay_symtab-first.ensures.out_after c.lay_symtab-first.ensures.value in record {
-      lent = c.requires.lent;
-      fits = turn_fits c.args.sizes.strtab _ _ (first) one (sym c.requires.sizes_of.strtab) c.requires.object_in_bounds.1;
-    }
+pub lay-second-requires-clause-room : goal.lay-second-requires-clause-room
+lay-second-requires-clause-room c =
+    let a = c.args in
+    let j = job_in a.text.now a.object.now in
+    let begun = turn_start a.out.now a.end (table_pieces j) (omega arith, (omega arith, (omega arith, tt))) c.requires.object_in_bounds.0 in
+    let s₁ : c.lay-first.ensures.out_after.bytes ≡ symtab_of j = search rules in
+    let first = turn_lay _ _ begun (sym (symtab_long a.text.now a.object.now c.requires.kept)) c.lay-first.ensures.out_after c.lay-first.ensures.value s₁ in
+    turn_room _ _ _ first one (sym c.requires.sizes_of.strtab) c.requires.object_in_bounds.1
 
-pub lay_shstrtab-requires : goal.lay_shstrtab-requires
-lay_shstrtab-requires c =
-    let begun = (let a = c.args in turn_start a.out.now a.end (table_pieces (job_in a.text.now a.object)) (omega arith, (omega arith, (omega arith, tt))) c.requires.object_in_bounds.0) in
-    let first = turn_on _ _ _ _ (begun) c.lay_symtab-first.ensures.out_after c.lay_symtab-first.ensures.value in
-    let second = turn_on _ _ _ _ (first) c.lay_strtab-second.ensures.out_after c.lay_strtab-second.ensures.value in record {
-      kept = c.requires.lent.kept;
-      fits = turn_fits c.args.names _ _ (second) one c.requires.names_value c.requires.object_in_bounds.1;
-    }
+pub lay-requires-clause-room : goal.lay-requires-clause-room
+lay-requires-clause-room c =
+    let a = c.args in
+    let j = job_in a.text.now a.object.now in
+    let begun = turn_start a.out.now a.end (table_pieces j) (omega arith, (omega arith, (omega arith, tt))) c.requires.object_in_bounds.0 in
+    let s₁ : c.lay-first.ensures.out_after.bytes ≡ symtab_of j = search rules in
+    let first = turn_lay _ _ begun (sym (symtab_long a.text.now a.object.now c.requires.kept)) c.lay-first.ensures.out_after c.lay-first.ensures.value s₁ in
+    let s₂ : c.lay-second.ensures.out_after.bytes ≡ strtab_of j = search rules in
+    let second = turn_lay _ _ first (sym c.requires.sizes_of.strtab) c.lay-second.ensures.out_after c.lay-second.ensures.value s₂ in
+    turn_room _ _ _ second one c.requires.names_value c.requires.object_in_bounds.1
 
-pub returns : goal.returns
-returns c =
-    let begun = (let a = c.args in turn_start a.out.now a.end (table_pieces (job_in a.text.now a.object)) (omega arith, (omega arith, (omega arith, tt))) c.requires.object_in_bounds.0) in
-    let first = turn_on _ _ _ _ (begun) c.lay_symtab-first.ensures.out_after c.lay_symtab-first.ensures.value in
-    let second = turn_on _ _ _ _ (first) c.lay_strtab-second.ensures.out_after c.lay_strtab-second.ensures.value in let both = turn_done (turn_on _ _ _ _ (second) c.lay_shstrtab.ensures.out_after c.lay_shstrtab.ensures.value) in record {
-      out_after = both.0;
-      value = both.1;
-    }
+pub returns-clause-out_after : goal.returns-clause-out_after
+returns-clause-out_after c =
+    let a = c.args in
+    let j = job_in a.text.now a.object.now in
+    let begun = turn_start a.out.now a.end (table_pieces j) (omega arith, (omega arith, (omega arith, tt))) c.requires.object_in_bounds.0 in
+    let s₁ : c.lay-first.ensures.out_after.bytes ≡ symtab_of j = search rules in
+    let first = turn_lay _ _ begun (sym (symtab_long a.text.now a.object.now c.requires.kept)) c.lay-first.ensures.out_after c.lay-first.ensures.value s₁ in
+    let s₂ : c.lay-second.ensures.out_after.bytes ≡ strtab_of j = search rules in
+    let second = turn_lay _ _ first (sym c.requires.sizes_of.strtab) c.lay-second.ensures.out_after c.lay-second.ensures.value s₂ in
+    let s₃ : c.lay.ensures.out_after.bytes ≡ shstrtab_of j = search rules in
+    (turn_done (turn_lay _ _ second c.requires.names_value c.lay.ensures.out_after c.lay.ensures.value s₃)).0

@@ -1,22 +1,17 @@
 -- `strings::put_map_strings` meets its contract. Assumes nothing.
 use mathlib.Core.Path.{sym}
-use mathlib.Core.List.{List, [], ◌∷◌, ◌++◌, append-nil}
-use Prim.Native.Nat.{ℕ}
+use mathlib.Core.List.{[], ◌∷◌, ◌++◌, append-nil}
 use Rattle.octets.proofs.Going.{go_start, go_as, go_on, go_done}
 use Rattle.written.specs.Written.{written}
-use Rattle.ast.specs.declared.MapDecl.{MapDecl}
 use Rattle.object.specs.Read.{name_in}
 use Rattle.members.specs.Strings.{attr_names}
 use Rattle.strings.proofs.put_map_strings.Goals as goal
 
-abbrev names : MapDecl → List ℕ
-names d = attr_names d.key_type d.value_type d.max_entries
-
-pub returns : goal.returns
-returns c =
-    let attributed = (let a = c.args in let w = written (name_in a.text.now a.name) ++ (0 ∷ []) in go_as (w ++ []) (sym (append-nil w)) (go_on (names a.map) w _ c.put_attribute_names-end.result (go_start a.out.now a.at (names a.map ++ w) c.requires.len_in_bounds) c.put_attribute_names-end.ensures.out_after c.put_attribute_names-end.ensures.value)) in
+pub returns-clause-out_after : goal.returns-clause-out_after
+returns-clause-out_after c =
     let a = c.args in
-    let w = written (name_in a.text.now a.name) ++ (0 ∷ []) in let both = go_done (go_on w [] _ c.put_written.result (attributed) c.put_written.ensures.out_after c.put_written.ensures.value) in record {
-      out_after = both.0;
-      value = both.1;
-    }
+    let names = attr_names a.map.decl.key_type a.map.decl.value_type a.map.decl.max_entries in
+    let own = written (name_in a.text.now a.map.name) ++ (0 ∷ []) in
+    let start = go_start a.out.now a.at (names ++ own) c.requires.len_in_bounds in
+    let named = go_on names own _ _ start c.put_attribute_names-end.ensures.out_after c.put_attribute_names-end.ensures.value in
+    (go_done (go_on own [] _ _ (go_as _ (sym (append-nil own)) named) c.put_written.ensures.out_after c.put_written.ensures.value)).0

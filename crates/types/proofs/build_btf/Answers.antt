@@ -4,14 +4,14 @@ use lib.ListN.{length}
 use Rattle.btf.specs.Maps.{btf_types}
 use Rattle.btf.specs.Builder.{bytes_at}
 use Rattle.btf.proofs.Builder.{types_built}
-use Rattle.members.specs.Section.{the_maps}
+use Rattle.object.specs.Read.{maps_in}
 use Rattle.members.specs.Strings.{all_strings}
 use Rattle.types.proofs.Whole.{section_is, types_part, strings-part, section_left}
 use Rattle.types.proofs.build_btf.Goals as goal
 
 pub put_types-requires : goal.put_types-requires
 put_types-requires c =
-    let ms = (let a = c.args in the_maps a.text.now a.maps a.ats.now a.lens.now a.count) in
+    let ms = maps_in c.args.text.now c.args.maps.now in
     let types = bytes_at 1 (btf_types (ms)) in
     let strings = all_strings (ms) in
     let long = c.requires.types_value ∙ ap length (types_built (btf_types (ms))) in
@@ -22,7 +22,7 @@ put_types-requires c =
 
 pub put_strings-requires : goal.put_strings-requires
 put_strings-requires c =
-    let ms = (let a = c.args in the_maps a.text.now a.maps a.ats.now a.lens.now a.count) in
+    let ms = maps_in c.args.text.now c.args.maps.now in
     let types = bytes_at 1 (btf_types (ms)) in
     let strings = all_strings (ms) in
     let long = c.requires.types_value ∙ ap length (types_built (btf_types (ms))) in
@@ -33,7 +33,7 @@ put_strings-requires c =
 
 pub returns : goal.returns
 returns c =
-    let ms = (let a = c.args in the_maps a.text.now a.maps a.ats.now a.lens.now a.count) in
+    let ms = maps_in c.args.text.now c.args.maps.now in
     let types = bytes_at 1 (btf_types (ms)) in
     let strings = all_strings (ms) in
     let long = c.requires.types_value ∙ ap length (types_built (btf_types (ms))) in

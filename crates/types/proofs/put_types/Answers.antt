@@ -6,7 +6,7 @@ pub add_maps-done-requires : goal.add_maps-done-requires
 add_maps-done-requires c =
     let a = c.args in record {
       maps_there = c.requires.maps_there;
-      within = maps_room a.text.now a.maps a.ats.now a.lens.now a.count c.requires.maps_there a.out.now c.requires.out_len _ c.add_ints-ints.result c.add_ints-ints.ensures.out_after
+      within = maps_room a.text.now a.maps.now c.requires.maps_there a.out.now c.requires.out_len _ c.add_ints-ints.result c.add_ints-ints.ensures.out_after
           c.add_ints-ints.ensures.value;
     }
 
@@ -14,13 +14,13 @@ pub add_maps_section-requires : goal.add_maps_section-requires
 add_maps_section-requires c =
     let a = c.args in
     let m = c.requires.maps_there in record {
-      count_bound = (m.names.few, m.decls_long);
-      within = section_room a.text.now a.maps a.ats.now a.lens.now a.count m a.out.now c.requires.out_len _ c.add_ints-ints.result c.add_ints-ints.ensures.out_after
+      few = m.few;
+      within = section_room a.text.now a.maps.now m a.out.now c.requires.out_len _ c.add_ints-ints.result c.add_ints-ints.ensures.out_after
           c.add_ints-ints.ensures.value _ c.add_maps-done.result c.add_maps-done.ensures.out_after c.add_maps-done.ensures.value c.add_maps-done.ensures.strings_bound;
     }
 
 pub returns : goal.returns
 returns c =
     let a = c.args in
-    types_left a.text.now a.maps a.ats.now a.lens.now a.count c.requires.maps_there a.out.now c.requires.out_len _ c.add_ints-ints.result c.add_ints-ints.ensures.out_after
+    types_left a.text.now a.maps.now c.requires.maps_there a.out.now c.requires.out_len _ c.add_ints-ints.result c.add_ints-ints.ensures.out_after
     c.add_ints-ints.ensures.value _ c.add_maps-done.result c.add_maps-done.ensures.out_after c.add_maps-done.ensures.value c.add_maps-done.ensures.strings_bound _ c.add_maps_section.ensures

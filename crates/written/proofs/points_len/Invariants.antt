@@ -1,7 +1,7 @@
 -- `written::points_len` meets its contract. Assumes nothing.
 use mathlib.Core.Path.{◌≡◌}
 use mathlib.Core.Bool.{true}
-use Prim.Native.Nat.{◌≤◌, ◌-◌}
+use Prim.Native.Nat.{◌≤◌}
 use lib.ListN.{length, drop}
 use Rattle.utf8.specs.Utf8.{points_from}
 use Rattle.utf8.specs.Wait.{wait_of, Fine}
@@ -10,10 +10,7 @@ use Rattle.written.specs.Written.{written}
 use Rattle.written.proofs.Chars.{len_of}
 use Rattle.written.proofs.points_len.Given as goal
 
-abbrev pub invariant-loop-i : goal.invariant-loop-i
-invariant-loop-i l =
-    (l.i ≤ length l.s) × (l.n ≤ l.i) × Fine l.w × (ok (points_from (wait_of l.w) (drop l.i l.s)) ≡ true)
-    × (length (written l.s) ≡ len_of l.n (points_from (wait_of l.w) (drop l.i l.s)))
-
-abbrev pub decreases-loop-i : goal.decreases-loop-i
-decreases-loop-i l = length l.s - l.i
+abbrev pub invariant-loop-b : goal.invariant-loop-b
+invariant-loop-b l =
+    (l.n ≤ l.b-index) × Fine l.w × (ok (points_from (wait_of l.w) (drop l.b-index l.s)) ≡ true)
+    × (length (written l.s) ≡ len_of l.n (points_from (wait_of l.w) (drop l.b-index l.s)))

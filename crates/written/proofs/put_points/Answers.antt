@@ -9,37 +9,27 @@ use Rattle.written.specs.Written.{written}
 use Rattle.octets.proofs.Laws.{write_on}
 use Rattle.utf8.specs.Wait.{wait_of}
 use Rattle.written.specs.Name.{rest_of}
-use Rattle.utf8.proofs.Laws.{took_point, took_more, ok}
-use Rattle.written.proofs.Chars.{ok_next, next_char, room}
+use Rattle.utf8.proofs.Laws.{took_any, took_point, took_more}
+use Rattle.written.proofs.Chars.{next_char, room}
 use Rattle.written.proofs.put_points.Goals as goal
+use Rattle.written.proofs.put_points.Goals.{in-Point, in-More}
 
-pub loop-i-preserved-in-Point : goal.loop-i-preserved-in-Point
-loop-i-preserved-in-Point c =
-    let l = c.loop-i in
-    let s = c.args.s.now in
-    let x = c.in-Point.c in
-    let q = c.step-stepped.ensures in
-    let r = points_from (wait_of c.step-stepped.result.wait) (drop (l.i + 1) s) in
-    let given = took_point s l.i _ (wait_of l.w) _ (omega arith) refl q.result_value q.wait_value _ _ c.in-Takes.is c.in-Point.is in
-    let next = next_char (written s) l.out l.n x _ r given l.invariant.4 l.invariant.5 in (
-      omega arith,
-      q.fine,
-      simp length-set l.invariant.2,
-      simp length-set l.invariant.3,
-      ok_next (written s) l.out l.n x _ r given l.invariant.4,
-      write_on l.out l.n _ (room l.out _ l.n _ l.invariant.3 next) next (ap (λ (k : ℕ). k ∷ rest_of (l.n + 1) r) (sym c.written_char.ensures)),
-    )
-
-pub loop-i-preserved : goal.loop-i-preserved
-loop-i-preserved c =
+pub loop-b-preserved : goal.loop-b-preserved
+loop-b-preserved c =
     let r = c.step-stepped.ensures in
-    let l = c.loop-i in
+    let l = c.loop-b in
     let s = c.args.s.now in
-    let t = took_more s l.i _ (wait_of l.w) _ (omega arith) refl r.result_value r.wait_value _ c.in-Takes.is c.in-More.is in (
-      omega arith,
-      r.fine,
-      l.invariant.2,
-      l.invariant.3,
-      sym (ap ok t) ∙ l.invariant.4,
-      rw t at l.invariant.5,
-    )
+    let q = points_from (wait_of c.step-stepped.result.wait) (drop (l.b-index + 1) s) in
+    let k = sym (took_any s l.b-index _ (wait_of l.w) _ (omega arith) refl r.result_value r.wait_value _ c.in-Some.is) ∙ l.invariant.2 in
+    elim c.match-next.branch [
+      | in-Point w ↦ let t = took_point s l.b-index _ (wait_of l.w) _ (omega arith) refl r.result_value r.wait_value _ _ c.in-Some.is w.in-Point.is in
+          let next = next_char (written s) l.out l.n w.in-Point.c _ q t l.invariant.2 l.invariant.3 in
+          rw (w.n-is, w.out-is) (
+            r.fine,
+            simp length-set l.invariant.1,
+            k,
+            write_on l.out l.n _ (room l.out _ l.n _ l.invariant.1 next) next (ap (λ (x : ℕ). x ∷ rest_of (l.n + 1) q) (sym w.written_char.ensures)),
+          )
+      | in-More w ↦ let t = took_more s l.b-index _ (wait_of l.w) _ (omega arith) refl r.result_value r.wait_value _ c.in-Some.is w.in-More.is in
+          rw (w.n-is, w.out-is) (r.fine, l.invariant.1, k, rw t at l.invariant.3)
+    ]

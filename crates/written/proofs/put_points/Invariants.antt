@@ -2,7 +2,6 @@
 use mathlib.Core.Path.{◌≡◌}
 use mathlib.Core.Bool.{true}
 use mathlib.Core.List.{◌++◌}
-use Prim.Native.Nat.{◌≤◌, ◌-◌}
 use lib.ListN.{length, drop, take}
 use Rattle.utf8.specs.Utf8.{points_from}
 use Rattle.written.specs.Written.{written}
@@ -11,10 +10,7 @@ use Rattle.written.specs.Name.{rest_of}
 use Rattle.utf8.proofs.Laws.{ok}
 use Rattle.written.proofs.put_points.Given as goal
 
-abbrev pub invariant-loop-i : goal.invariant-loop-i
-invariant-loop-i l =
-    (l.i ≤ length l.s) × Fine l.w × (length l.out ≡ length l.initial.out) × (length l.out ≡ length (written l.s))
-    × (ok (points_from (wait_of l.w) (drop l.i l.s)) ≡ true) × (written l.s ≡ take l.n l.out ++ rest_of l.n (points_from (wait_of l.w) (drop l.i l.s)))
-
-abbrev pub decreases-loop-i : goal.decreases-loop-i
-decreases-loop-i l = length l.s - l.i
+abbrev pub invariant-loop-b : goal.invariant-loop-b
+invariant-loop-b l =
+    Fine l.w × (length l.out ≡ length (written l.s)) × (ok (points_from (wait_of l.w) (drop l.b-index l.s)) ≡ true)
+    × (written l.s ≡ take l.n l.out ++ rest_of l.n (points_from (wait_of l.w) (drop l.b-index l.s)))

@@ -1,9 +1,0 @@
--- `sections::lay_strtab` meets its contract. Assumes nothing.
-use Rattle.sections.proofs.Laid.{fits_after, fits_lay}
-use Rattle.sections.proofs.lay_strtab.Goals as goal
-
-pub returns : goal.returns
-returns c = record {
-  out_after = fits_lay c.requires.fits _ c.pad-at.ensures.value c.pad-at.ensures.out_after _ c.put_strtab.ensures;
-  value = fits_after c.requires.fits c.pad-at.ensures.value;
-}
