@@ -189,6 +189,8 @@ fn read_attrs(line: Hex, map_type: MapType, p: u8) -> Option<Frame>
     read_entries(line, second.next, p, map_type, key_type, value_type)
 }
 
+// Apart, so that `read_frame` stays small: a program has thousands of frames, and none of them is a map.
+#[inline(never)]
 fn read_map(line: Hex) -> Option<Frame>
     ensures result_value { frame_told (bytes line.entry) result ≡ told 3 (map_frame (drop 1 (bytes line.entry))) }
     ensures placed_read { PlacedRead (bytes line.entry) result }
@@ -207,7 +209,8 @@ fn read_map(line: Hex) -> Option<Frame>
     read_attrs(line, map_type, p)
 }
 
-// The frame that a line's bytes give, if they give one.
+// The frame that a line's bytes give, if they give one. Inlined: each frame of code is read twice.
+#[inline(always)]
 pub fn read_frame(line: Hex) -> Option<Frame>
     requires { 1 ≤ length (bytes line) }
     ensures result_value { frame_told (bytes line.entry) result ≡ told 3 (frame_of (bytes line.entry)) }

@@ -51,7 +51,8 @@ fn skip_blocks(s: &[u8], at: usize) -> usize
     i
 }
 
-// The end of a line whose characters before `at` were looked at.
+// The end of a line whose characters before `at` were looked at. Apart, so that `line_end`, which is inlined, stays small.
+#[inline(never)]
 fn far_end(s: &[u8], at: usize) -> Option<usize>
     ensures { end_told result ≡ line_end s.now at }
 {
@@ -66,6 +67,7 @@ fn far_end(s: &[u8], at: usize) -> Option<usize>
 
 // The end of the line that starts at `at`: the place of its LF, or none if no LF ends it. Most lines are short; the others are looked at in
 // blocks.
+#[inline(always)]
 pub fn line_end(s: &[u8], at: usize) -> Option<usize>
     ensures { end_told result ≡ line_end s.now at }
 {
