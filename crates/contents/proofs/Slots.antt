@@ -55,7 +55,7 @@ module _ (text : List ℕ) (place : ℕ) (inside : place + 16 ≤ length text) (
   pub offset_hex : is_hex (take (place + 16 - place) (drop place text)) ≡ true
   offset_hex = rw sixteen hex
 
-  offset_length : length (take (place + 16 - place) (drop place text)) ≡ 16
+  pub offset_length : length (take (place + 16 - place) (drop place text)) ≡ 16
   offset_length = rw sixteen (length-take-le 16 (drop place text) (rw length-drop (omega arith)))
 
   pub offset_read : value (take 8 (drop 0 (bytes_in (take (place + 16 - place) (drop place text))))) ≡ value (bytes_at text place 8)

@@ -39,7 +39,7 @@ module _ (text : List ℕ) (ps : List Program) where
   abbrev pub names_behind : ℕ → List (List ℕ)
   names_behind i = rel_name (relocs_of i) (section_of i) ++ names_from (i + 1)
 
-  section_from : (i : ℕ) → i < length ps → joined (names_from i) ≡ (section_of i ++ (0 ∷ [])) ++ joined (names_behind i)
+  pub section_from : (i : ℕ) → i < length ps → joined (names_from i) ≡ (section_of i ++ (0 ∷ [])) ++ joined (names_behind i)
   section_from i h = at_drop_more (λ qs. joined (program_section_names text qs)) ps i no_program h
 
   -- one more: a program's own section

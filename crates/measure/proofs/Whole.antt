@@ -144,7 +144,7 @@ object-length j =
 -- ---- the whole
 
 -- the headers and the answer, when all sections are measured
-measured_is : (j : Job) (rows : List code.Section) (m : Measuring) (at : ℕ) → Rows (sections_of j) rows m [] → m.names ≡ length (shstrtab_of j) → at ≡ align_to 8 m.end
+pub measured_is : (j : Job) (rows : List code.Section) (m : Measuring) (at : ℕ) → Rows (sections_of j) rows m [] → m.names ≡ length (shstrtab_of j) → at ≡ align_to 8 m.end
     → (rows ≡ rows_of j) × (◌≡◌ {A = Measured} (record { count = m.count; at = at; names = m.names; len = at + 64 * m.count }) (measured_of j))
 measured_is j rows m at r names e =
     let n : m.count ≡ suc (length (sections_of j)) = omega (arith, r.counted) in
@@ -152,7 +152,7 @@ measured_is j rows m at r names e =
     (sym (r.is ∙ append-nil rows), rw (n, a, names, object-length j))
 
 -- all headers that the code writes, and the state after them
-abbrev all_rows : Sizes → BpfObject → ℕ → List code.Section
+abbrev pub all_rows : Sizes → BpfObject → ℕ → List code.Section
 all_rows z o symtab =
     let before = front z o.map_count in
     let declared = after_programs before symtab (take o.program_count o.programs) in
@@ -163,7 +163,7 @@ after_all z o symtab =
     tabled (after_programs (front z o.map_count) symtab (take o.program_count o.programs)) (2 + o.map_count + o.program_count) z.strtab
 
 module _ (text : List ℕ) (o : BpfObject) (k : Kept text o) (z : Sizes) (s : SizesOf (job_in text o) z) where
-  rows_whole : (first symtab : ℕ) → first ≡ first_of o.map_count → symtab ≡ behind_all (take o.program_count o.programs) first
+  pub rows_whole : (first symtab : ℕ) → first ≡ first_of o.map_count → symtab ≡ behind_all (take o.program_count o.programs) first
       → Rows (sections_of (job_in text o)) (all_rows z o symtab) (after_all z o symtab) [] × ((after_all z o symtab).names ≡ length (shstrtab_of (job_in text o)))
   rows_whole first symtab f t =
       let n = count_declared text o k in
