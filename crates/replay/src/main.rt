@@ -17,6 +17,9 @@ enum Stored {
 }
 
 impl Stored {
+    // The refusal for lack of room.
+    const NO_ROOM: Stored = Stored::Refused { number: 8, line: 0 };
+
     // A record's second and third number: 0 in place of a refusal's number is an object.
     fn read(number: u64, line: u64) -> Stored {
         if number == 0 {
@@ -71,8 +74,10 @@ fn makes(job: &[u8], out: &mut [u8], object: &[u8]) -> bool {
 // Whether the job is refused for lack of room, with the length `n` that it needs, and `out` is left as it was.
 fn wants(job: &[u8], out: &mut [u8], n: usize) -> bool {
     match maker::make(job, out) {
-        Err(Refusal::NoRoom(needed)) => needed == n && untouched(out),
-        _ => false,
+        Err(refusal) => Stored::from(refusal) == Stored::NO_ROOM
+            && refusal.needed() == n
+            && untouched(out),
+        Ok(_) => false,
     }
 }
 
